@@ -1,13 +1,16 @@
-//! The bank program. `main` takes the arguments of the command line, the standard streams, the machine's files and its
-//! clock, and hands them to `answer`, which does what the arguments ask for and returns the status. What each action
-//! promises is said by `IsActed`, over every stream, every start of a file and every clock; that the program hands the
-//! right ones on is seen by reading `run`.
+//! The bank program. `main` takes the arguments of the command line, the standard streams, the machine's files, its places
+//! for connections and its clock, and hands them to `answer`, which does what the arguments ask for and returns the status.
+//! What each action promises is said by `IsActed`, over every stream, every start of a file, every place and every clock;
+//! that the program hands the right ones on is seen by reading `run`.
 #![tactic(auto)]
 
 mod act;
+mod streams;
 
 use crate::act::answer;
-use cli_file::{Machine, Progress};
+use crate::streams::Streams;
+use cli_counter::MachinePlaces;
+use cli_file::{Machine, MachineLists, Progress};
 use cli_words::unread;
 use counter_clocks::MachineClock;
 use money::Tallied;
@@ -35,22 +38,25 @@ fn run(rt: &HostRuntime) -> io::Result<u8> {
         .skip(1)
         .map(|word| word.as_str())
         .collect(alloc)?;
-    let mut input = Tallied::new(rt.stdin());
-    let mut output = Tallied::new(BufWriter::new(alloc, rt.stdout())?);
-    let mut errors = Tallied::new(rt.stderr());
     let is_watched = rt.stderr().is_terminal();
-    let mut progress = Progress::on(if is_watched { Some(rt.stderr()) } else { None });
-    let (left, status) = answer(
+    let mut streams = Streams {
+        input: Tallied::new(rt.stdin()),
+        output: Tallied::new(BufWriter::new(alloc, rt.stdout())?),
+        errors: Tallied::new(rt.stderr()),
+        progress: Progress::on(if is_watched { Some(rt.stderr()) } else { None }),
+    };
+    let (ended, left, place, _, _, status) = answer(
         rt,
         words.as_slice(),
         Machine { start: Unknown },
         Machine { start: Unknown },
-        &mut MachineClock::of(rt),
-        &mut input,
-        &mut output,
-        &mut errors,
-        &mut progress,
+        &MachineLists { rt },
+        MachinePlaces { rt },
+        MachineClock::of(rt),
+        &mut streams,
     );
+    drop(ended);
     drop(left);
+    drop(place);
     Ok(status)
 }

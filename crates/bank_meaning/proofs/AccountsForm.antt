@@ -23,4 +23,5 @@ accounts_is_form form = record {
   moves = none_within 0;
   cash = λ is by w branch place. no_amount 0;
   asked = λ by w judged. record { asked = refl; bear = tt; days = tt };
+  replied = λ by w checks proper judged step. refl;
 }

@@ -150,7 +150,7 @@ IsDayLast branches [] = ⊤
 IsDayLast branches (write.Day d ∷ cs) = (cs ≡ []) × ((row : Branch) × (branch_row d.branch branches ≡ Some row) × (row.day ≢ d.day))
 IsDayLast branches (c ∷ cs) = IsDayLast branches cs
 
-found_made : {T : Type 0} (key : T → ℕ) (k : ℕ) (made : T → T) (xs : List T) (x : T) → key (made x) ≡ k → find (λ y. key y == k) xs ≡ Some x → find (λ y. key y == k) (change_rows key k made xs) ≡ Some (made x)
+pub found_made : {T : Type 0} (key : T → ℕ) (k : ℕ) (made : T → T) (xs : List T) (x : T) → key (made x) ≡ k → find (λ y. key y == k) xs ≡ Some x → find (λ y. key y == k) (change_rows key k made xs) ≡ Some (made x)
 found_made key k made [] x of is = absurd cc
 found_made {T = T} key k made (y ∷ ys) x of is = go (key y == k) refl is (found_made key k made ys x of)
   where

@@ -24,8 +24,8 @@ use Rattle.bank_meaning.specs.Slips.{slip_named, slip_of}
 use Rattle.bank_meaning.specs.Moves.{Moves, moves_nothing}
 use Rattle.bank_meaning.specs.Operations.{moves_of}
 use Rattle.bank_meaning.specs.declared.execution.Execution.{Execution}
-use Rattle.bank_meaning.specs.declared.leave.Leave.{Leave}
-use Rattle.bank_meaning.specs.declared.leave.Leave.TheVariants as leave
+use Rattle.bank_meaning.specs.declared.leave.Authorization.{Authorization}
+use Rattle.bank_meaning.specs.declared.leave.Authorization.TheVariants as leave
 use Rattle.bank_meaning.proofs.RunSums.{one_request}
 use Rattle.bank_meaning.specs.Form.{changed_by}
 use Rattle.bank_meaning.proofs.Forms.{law_of}
@@ -47,7 +47,7 @@ effect_lines w x = go (slip_named x == 0) (leave_of (grounds w x))
     after : WorldLists
     after = (books_meaning w x).effect
 
-    go : (b : Bool) (l : Leave)
+    go : (b : Bool) (l : Authorization)
         → (if b then used_by l (asker x.who) after else written (write.Slip (slip_of x (books_meaning w x).reply.bytes)) (used_by l (asker x.who) after)).lines ≡ after.lines
     go true leave.Triple = refl
     go true (leave.Release number) = refl

@@ -78,7 +78,7 @@ placed branch place (write.Line l ∷ cs) = line_at branch place l +ℤ placed b
 placed branch place (c ∷ cs) = placed branch place cs
 
 pub then_added : (before mid after first rest : ℤ) → mid ≡ before +ℤ first → after ≡ mid +ℤ rest → after ≡ before +ℤ (first +ℤ rest)
-then_added before mid after first rest here behind = omega (arith, ints)
+then_added before mid after first rest here following = omega (arith, ints)
 
 pub lines_written : (branch place : ℕ) (cs : List RowWrite) (w : WorldLists) → place_cash branch place (all_written cs w).lines ≡ place_cash branch place w.lines +ℤ placed branch place cs
 lines_written branch place [] w = sym (no_more (place_cash branch place w.lines))

@@ -1,4 +1,5 @@
 -- The laws of a question for a balance: it changes nothing.
+use Rattle.bank_meaning.proofs.RepliedRows.{balance_replied}
 use Rattle.std.proofs.Common.{refl, None, not, subst, sym, ◌≡◌}
 use Rattle.bank_terms.specs.declared.rule.Rule.TheVariants as rule
 use Rattle.bank_meaning.proofs.JudgedParts.{account_there}
@@ -43,4 +44,5 @@ balance_is_form form = record {
   moves = none_within 0;
   cash = λ is by w branch place. no_amount 0;
   asked = λ by w judged. record { asked = refl; bear = tt; days = tt };
+  replied = λ by w checks proper judged step. balance_replied w form judged;
 }

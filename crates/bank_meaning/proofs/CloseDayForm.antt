@@ -1,4 +1,5 @@
 -- The laws of a day that is closed.
+use Rattle.bank_meaning.proofs.RepliedRows.{close_day_replied}
 use Rattle.bank_meaning.proofs.AskedRows.{is_home}
 use Rattle.bank_books.specs.declared.rows.Branch.{Branch}
 use Rattle.bank_books.specs.declared.signature.Signature.{Signature}
@@ -109,7 +110,7 @@ close_day_asked by w form judged =
           ∙ ap (λ (o : Option Branch). option_map_or (λ r. r.cash) o (pos 0) +ℤ place_cash form.branch 0 w.lines) found;
     } in
     subst (AreWritten (op.CloseDay form) by w) (sym (close_allowed.changes_are w form (record { branch = branch; branch_is = judged.branch.1 }))) (record {
-      asked = (proof, refl, ap (option_map (λ day. day + 1)) home.day);
+      asked = (day_proof (ledger_of (branch_record_of w branch)) (branch_record_of w branch).vault form, branch.day + 1, refl, proof, ap (option_map (λ d. d + 1)) home.day);
       bear = (home.day, (tt, tt));
       days = (refl, (branch, judged.branch.1, not_next branch.day));
     })
@@ -172,4 +173,5 @@ close_day_is_form form = record {
   moves = none_within _;
   cash = λ is by w branch place. close_day_lines w form branch place;
   asked = λ by w judged. close_day_asked by w form judged;
+  replied = λ by w checks proper judged step. close_day_replied w form judged;
 }

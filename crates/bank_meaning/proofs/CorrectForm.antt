@@ -1,6 +1,8 @@
 -- The laws of a correction.
+use Rattle.bank_books.specs.Cash.{line_count}
+use Rattle.bank_meaning.proofs.RepliedEntries.{correct_replied}
 use Rattle.bank_meaning.specs.AskedRows.{entry_says, line_says}
-use Rattle.bank_meaning.proofs.AskedRows.{is_home, numbered, partnered}
+use Rattle.bank_meaning.proofs.AskedRows.{account_found, is_home, numbered, partnered}
 use Rattle.bank_meaning.specs.Correct.{AreUndoing, undoing_says}
 use Rattle.bank_books.specs.Balances.{entry_count}
 use Rattle.bank_books.specs.declared.rows.CashLine.{CashLine}
@@ -257,6 +259,7 @@ correct_asked by w c judged =
     let home = is_home w c.branch judged.branch judged.branch_there in
     let account : AccountRecord = account_record_of w judged.floor.row in
     let ledger : Ledger = ledger_of (branch_record_of w judged.branch) in
+    let of = account_found w c.account judged.floor.row judged.floor.there in
     let there : correct_allowed.AreThere w c = record {
       account = judged.floor.row;
       account_is = judged.floor.there;
@@ -272,11 +275,11 @@ correct_asked by w c judged =
           let of_form = sym (named.of_post (eqb-true c.other 0 post)) in
           let e : Entry = undoing_entry account ledger c by in
           let l : CashLine = undoing_line (cash_book_of (branch_record_of w judged.branch)) c by in
-          let entered = numbered w (entry_says e) 1 judged.branch.branch c.branch home.key
-          ∙ ap₂ (λ a d. undoing_says c a (neg_ℤ d) (entry_count c.branch w.entries + 1) 0 c.entry) (sym named.account) (sym named.delta) in
-          let paid = ap (λ d. record (line_says l) { amount = neg_ℤ d }) (sym named.delta) in
+          let entered = numbered w (entry_says e) 1 judged.branch.branch c.branch judged.floor.row.account c.account home.key of
+          ∙ ap₂ (λ a d. undoing_says w c a (neg_ℤ d) (entry_count c.branch w.entries + 1) 0 c.entry) (sym named.account) (sym named.delta) in
+          let paid = ap₂ (λ k d. record (line_says l) { number = line_count k w.lines + 1; amount = neg_ℤ d }) home.key (sym named.delta) in
           subst (AreWritten (op.Correct c) by w) (sym (correct_allowed.changes_of_post w c there by post)) (record {
-            asked = (judged.row, judged.there, subst (λ f. AreUndoing w c judged.row f (write.Entry e ∷ write.Line l ∷ [])) of_form (entered, paid));
+            asked = (judged.row, judged.there, subst (λ f. AreUndoing w c judged.row f (write.Entry e ∷ write.Line l ∷ [])) of_form (e, l, refl, entered, paid));
             bear = ((refl, refl, home.day), ((refl, refl, home.day), tt));
             days = tt;
           })
@@ -289,12 +292,12 @@ correct_asked by w c judged =
           let e : Entry = undoing_leg account ledger c by in
           let o : Entry = undoing_other (account_record_of w other.row) ledger judged.row.partner c by in
           let n = entry_count c.branch w.entries in
-          let entered = partnered w (entry_says e) 1 2 judged.branch.branch c.branch home.key
-          ∙ ap₂ (λ a d. undoing_says c a (neg_ℤ d) (n + 1) (n + 2) c.entry) (sym named.account) (sym named.delta) in
-          let also_entered = partnered w (entry_says o) 2 1 judged.branch.branch c.branch home.key
-          ∙ ap₂ (λ a d. undoing_says c a d (n + 2) (n + 1) judged.row.partner) (sym leg.1.1) (sym named.delta) in
+          let entered = partnered w (entry_says e) 1 2 judged.branch.branch c.branch judged.floor.row.account c.account home.key of
+          ∙ ap₂ (λ a d. undoing_says w c a (neg_ℤ d) (n + 1) (n + 2) c.entry) (sym named.account) (sym named.delta) in
+          let also_entered = partnered w (entry_says o) 2 1 judged.branch.branch c.branch other.row.account c.other home.key (account_found w c.other other.row other.there)
+          ∙ ap₂ (λ a d. undoing_says w c a d (n + 2) (n + 1) judged.row.partner) (sym leg.1.1) (sym named.delta) in
           subst (AreWritten (op.Correct c) by w) (sym (correct_allowed.changes_of_legs w c there also by legs)) (record {
-            asked = (judged.row, judged.there, subst (λ f. AreUndoing w c judged.row f (write.Entry e ∷ write.Entry o ∷ [])) of_form (entered, (leg.0, leg.1.0, also_entered)));
+            asked = (judged.row, judged.there, subst (λ f. AreUndoing w c judged.row f (write.Entry e ∷ write.Entry o ∷ [])) of_form (e, o, leg.0, refl, entered, leg.1.0, also_entered));
             bear = ((refl, refl, home.day), ((refl, refl, home.day), tt));
             days = tt;
           })
@@ -485,4 +488,5 @@ correct_is_form form = record {
   };
   cash = λ is by w branch place. correct_lines w form by branch place;
   asked = λ by w judged. correct_asked by w form judged;
+  replied = λ by w checks proper judged step. correct_replied by w form judged step proper;
 }

@@ -33,8 +33,8 @@ not_so false is = refl
 
 -- ---- the operation
 
-pub same_told : (row other : OperationRow) → is_same_operation row other ≡ true → row ≡ other
-same_told row other is =
+pub same_of_test : (row other : OperationRow) → is_same_operation row other ≡ true → row ≡ other
+same_of_test row other is =
     let parts = and_parts (number_of row.form == number_of other.form) (pointwise int_eq row.members other.members) is in
     ap (λ f. record { form = f; members = row.members }) (one_procedure row.form other.form (eqb-true (number_of row.form) (number_of other.form) parts.0))
     ∙ ap (λ ms. record { form = other.form; members = ms }) ((signed_items row.members other.members).0 parts.1)
@@ -49,18 +49,18 @@ same_tested row other same =
 abbrev day_test : WorldLists → ℕ → Option Branch → Bool
 day_test w day o = option_map_or (λ today. day == today) (option_map (λ b. b.row.day) (option_map (branch_record_of w) o)) false
 
-today_told : (w : WorldLists) (day : ℕ) (o : Option Branch) → day_test w day o ≡ true → (branch : Branch) × ((o ≡ Some branch) × (day ≡ branch.day))
-today_told w day None is = absurd cc
-today_told w day (Some branch) is = (branch, (refl, eqb-true day branch.day is))
+today_of_test : (w : WorldLists) (day : ℕ) (o : Option Branch) → day_test w day o ≡ true → (branch : Branch) × ((o ≡ Some branch) × (day ≡ branch.day))
+today_of_test w day None is = absurd cc
+today_of_test w day (Some branch) is = (branch, (refl, eqb-true day branch.day is))
 
 today_tested : (w : WorldLists) (day : ℕ) (o : Option Branch) (branch : Branch) → o ≡ Some branch → day ≡ branch.day → day_test w day o ≡ true
 today_tested w day o branch there same = ap (day_test w day) there ∙ eq-eqb day branch.day same
 
 -- ---- who gave it
 
-active_told : (o : Option Standing) → is_active o ≡ true → (giver : Standing) × ((o ≡ Some giver) × (giver.suspended ≡ false))
-active_told None is = absurd cc
-active_told (Some giver) is = (giver, (refl, not-true giver.suspended is))
+active_of_test : (o : Option Standing) → is_active o ≡ true → (giver : Standing) × ((o ≡ Some giver) × (giver.suspended ≡ false))
+active_of_test None is = absurd cc
+active_of_test (Some giver) is = (giver, (refl, not-true giver.suspended is))
 
 active_tested : (o : Option Standing) (giver : Standing) → o ≡ Some giver → giver.suspended ≡ false → is_active o ≡ true
 active_tested o giver there active = ap is_active there ∙ not_so giver.suspended active
@@ -68,22 +68,22 @@ active_tested o giver there active = ap is_active there ∙ not_so giver.suspend
 -- ---- the release
 
 module _ (w : WorldLists) (user number : ℕ) (op : Op) (moment : ℕ) where
-  told_row : (row : Release) → release w user number ≡ Some row → counts (release_grounds_of w moment row) user (row_of op) (touched op) (amount op) ≡ true → Released w user number op moment
-  told_row row there is =
+  stated_row : (row : Release) → release w user number ≡ Some row → counts (release_grounds_of w moment row) user (row_of op) (touched op) (amount op) ≡ true → Released w user number op moment
+  stated_row row there is =
       let g = release_grounds_of w moment row in
       let first = and_parts (not row.used) (is_same_operation row.operation (row_of op) && (is_of_today g && is_giver_for g user (touched op) (amount op))) is in
       let second = and_parts (is_same_operation row.operation (row_of op)) (is_of_today g && is_giver_for g user (touched op) (amount op)) first.1 in
       let third = and_parts (is_of_today g) (is_giver_for g user (touched op) (amount op)) second.1 in
       let fourth = and_parts (not (row.giver == user)) (is_active g.giver && is_held_for g.held (touched op) (amount op)) third.1 in
       let fifth = and_parts (is_active g.giver) (is_held_for g.held (touched op) (amount op)) fourth.1 in
-      let day = today_told w row.day (branch_row row.branch w.branches) third.0 in
-      let giver = active_told (standing w.policy row.giver) fifth.0 in
+      let day = today_of_test w row.day (branch_row row.branch w.branches) third.0 in
+      let giver = active_of_test (standing w.policy row.giver) fifth.0 in
       let some = held_up_to (current moment (triples_of w.policy row.giver procedure.Release)) (touched op) (amount op) fifth.1 in
       record {
         row = row;
         there = there;
         unused = not-true row.used first.0;
-        operation = same_told row.operation (row_of op) second.0;
+        operation = same_of_test row.operation (row_of op) second.0;
         branch = day.0;
         branch_there = day.1.0;
         today = day.1.1;
@@ -110,9 +110,9 @@ module _ (w : WorldLists) (user number : ℕ) (op : Op) (moment : ℕ) where
   abbrev test : Option Release → Bool
   test o = option_map_or (λ g. counts g user (row_of op) (touched op) (amount op)) (option_map (release_grounds_of w moment) o) false
 
-  told : (o : Option Release) → release w user number ≡ o → test o ≡ true → Released w user number op moment
-  told None at is = absurd cc
-  told (Some row) at is = told_row row at is
+  stated : (o : Option Release) → release w user number ≡ o → test o ≡ true → Released w user number op moment
+  stated None at is = absurd cc
+  stated (Some row) at is = stated_row row at is
 
   pub released_by_grounds : (test (release w user number) ≡ true → Released w user number op moment) × (Released w user number op moment → test (release w user number) ≡ true)
-  released_by_grounds = (λ is. told (release w user number) refl is, λ r. ap test r.there ∙ tested_row r)
+  released_by_grounds = (λ is. stated (release w user number) refl is, λ r. ap test r.there ∙ tested_row r)

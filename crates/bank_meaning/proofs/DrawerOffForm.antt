@@ -1,14 +1,17 @@
 -- The laws of a drawer that is put off.
-use Rattle.bank_meaning.proofs.AskedRows.{is_home}
+use Rattle.bank_books.specs.declared.rows.CashLine.{CashLine}
+use Rattle.bank_meaning.specs.AskedRows.{line_says}
+use Rattle.bank_meaning.proofs.RepliedCash.{drawer_off_replied}
+use Rattle.bank_meaning.proofs.AskedRows.{is_home, placed_next}
 use Rattle.bank_meaning.specs.DrawerOff.{off_says}
-use Rattle.bank_books.specs.Cash.{place_cash}
+use Rattle.bank_books.specs.Cash.{line_count, place_cash}
 use Rattle.bank_books.specs.Keys.{teller_key}
 use Rattle.bank_books.specs.declared.rows.LineForm.TheVariants as line_form
 use Rattle.bank_books.specs.declared.rows.Teller.{Teller}
 use Rattle.drawers.proofs.DrawerThere.{AreThere}
 use Rattle.drawers.specs.DrawerOff.{drawer_off_changes}
 use Rattle.keyed_rows.proofs.Rows.{found_row}
-use Rattle.std.proofs.Common.{ap₂}
+use Rattle.std.proofs.Common.{ap₂, ◌+◌}
 use Rattle.bank_books.specs.Books.{Books}
 use Rattle.bank_books.specs.Effects.{applied}
 use Rattle.bank_books.specs.Records.{branch_record, teller_record, teller_record_of, branch_record_of}
@@ -84,11 +87,18 @@ drawer_off_asked by w form judged =
     let row : Teller = judged.drawer.row in
     let there : AreThere w form.teller form.branch =
     record { holder = row; holder_is = judged.drawer.there; home = judged.branch.0; home_is = judged.branch.1 } in
+    let next = λ (l : CashLine) (n : ℕ). placed_next w (line_says l) n judged.branch.0.branch form.branch home.key in
     subst (AreWritten (op.DrawerOff form) by w) (sym (off_allowed.changes_are w form there by)) (record {
       asked = (
-        ap₂ (λ b t. off_says form form.teller (form.counted +ℤ neg_ℤ (place_cash b t w.lines)) line_form.Difference) judged.drawer.of_branch (found_row teller_key form.teller w.tellers row judged.drawer.there).1,
+        off_allowed.counted w form there by,
+        off_allowed.emptied w form there by,
+        off_allowed.returned w form there by,
         refl,
-        refl,
+        next (off_allowed.counted w form there by) 1
+            ∙ ap₂ (λ b t. off_says form (line_count form.branch w.lines + 1) form.teller (form.counted +ℤ neg_ℤ (place_cash b t w.lines)) line_form.Difference) judged.drawer.of_branch
+            (found_row teller_key form.teller w.tellers row judged.drawer.there).1,
+        next (off_allowed.emptied w form there by) 2,
+        next (off_allowed.returned w form there by) 3,
       );
       bear = ((refl, refl, home.day), ((refl, refl, home.day), ((refl, refl, home.day), tt)));
       days = tt;
@@ -163,4 +173,5 @@ drawer_off_is_form form = record {
   moves = none_within _;
   cash = λ is by w branch place. absurd cc;
   asked = λ by w judged. drawer_off_asked by w form judged;
+  replied = λ by w checks proper judged step. drawer_off_replied by w form checks.books judged step;
 }

@@ -1,5 +1,8 @@
 -- The laws of a drawer that is put on.
-use Rattle.bank_meaning.proofs.AskedRows.{is_home}
+use Rattle.bank_books.specs.declared.rows.CashLine.{CashLine}
+use Rattle.bank_meaning.specs.AskedRows.{line_says}
+use Rattle.bank_meaning.proofs.RepliedCash.{drawer_on_replied}
+use Rattle.bank_meaning.proofs.AskedRows.{is_home, placed_next}
 use Rattle.drawers.proofs.DrawerThere.{AreThere}
 use Rattle.bank_books.specs.Balances.{teller_row}
 use Rattle.bank_books.specs.Books.{Books}
@@ -95,8 +98,9 @@ drawer_on_asked by w form judged =
     let home = is_home w form.branch judged.branch.0 judged.branch.1 in
     let there : AreThere w form.teller form.branch =
     record { holder = judged.drawer.row; holder_is = judged.drawer.there; home = judged.branch.0; home_is = judged.branch.1 } in
+    let next = λ (l : CashLine) (n : ℕ). placed_next w (line_says l) n judged.branch.0.branch form.branch home.key in
     subst (AreWritten (op.DrawerOn form) by w) (sym (on_allowed.changes_are w form there by))
-    (record { asked = (refl, refl); bear = ((refl, refl, home.day), ((refl, refl, home.day), tt)); days = tt })
+    (record { asked = (on_allowed.given w form there by, on_allowed.taken w form there by, refl, next (on_allowed.given w form there by) 1, next (on_allowed.taken w form there by) 2); bear = ((refl, refl, home.day), ((refl, refl, home.day), tt)); days = tt })
 
 drawer_on_judged : (w : WorldLists) (who : Who) (moment : ℕ) (form : DrawerOn) → NoneDenies w who moment (op.DrawerOn form) → IsDrawerOnJudged w form
 drawer_on_judged w who moment form none =
@@ -156,4 +160,5 @@ drawer_on_is_form form = record {
   moves = none_within _;
   cash = λ is by w branch place. drawer_on_lines w form by branch place;
   asked = λ by w judged. drawer_on_asked by w form judged;
+  replied = λ by w checks proper judged step. drawer_on_replied by w form checks.books judged step;
 }

@@ -1,47 +1,55 @@
 -- The laws of one request and of lists of them, as one record.
-use Rattle.std.proofs.Common.{◌≡◌, ◌≢◌, ◌↔◌, ℕ, ◌<◌, zero, suc, true, List, [], ◌∷◌, Some, None, take, ap, ap₂, ◌&&◌, arith, sym, subst, ◌∙◌, add-one}
+use Rattle.std.proofs.Common.{◌≡◌, ◌≢◌, ◌↔◌, ℕ, ◌<◌, zero, suc, true, false, List, [], ◌∷◌, Some, None, take, ap, ap₂, ◌&&◌, arith, sym, subst, ◌∙◌, add-one}
 use Rattle.std.specs.Prelude.{is_none, slice_get}
 use Rattle.std.proofs.lemmas.List.Elements.{All-head, All-tail}
 use Rattle.bank_books.specs.WorldLists.{WorldLists}
 use Rattle.store_rows.specs.Status.{after_mark}
-use Rattle.bank_meaning.specs.Headline.{Headline, IsMadeRightly, IsTreatedRightly}
+use Rattle.bank_meaning.specs.Headline.{Headline, IsMadeRightly, IsSessionReplied, IsTreatedRightly}
 use Rattle.bank_meaning.specs.Laws.{IsHeld}
 use Rattle.bank_meaning.specs.Recorded.{RowsAreAsked}
 use Rattle.bank_meaning.specs.Repeats.{IsKeptReply}
 use Rattle.bank_meaning.specs.Requests.{effect, executes, first, repeated, reply_text}
-use Rattle.bank_meaning.specs.Run.{Marked, after_request, if_allowed, is_accepted, step, told, told_again, unless_repeated, world_after}
+use Rattle.bank_meaning.specs.Run.{Marked, after_request, if_allowed, is_accepted, reply, step, stated, repeated_reply, unless_repeated, world_after}
+use Rattle.bank_meaning.specs.Sessions.{ending_text, opening_text}
 use Rattle.bank_meaning.specs.Slips.{slip_named}
 use Rattle.bank_meaning.specs.Sums.{AreProper, IsProper, PassesChecks}
 use Rattle.bank_meaning.specs.declared.execution.Execution.{Execution}
+use Rattle.bank_meaning.specs.declared.request.Asked.{Asked}
 use Rattle.bank_meaning.specs.declared.request.Request.{Request}
 use Rattle.bank_meaning.proofs.ActsOnce.{each_acts_once}
 use Rattle.bank_meaning.proofs.AmountBounds.{amounts_bound}
 use Rattle.bank_meaning.proofs.BooksJudged.{books_are_judged}
-use Rattle.bank_meaning.proofs.CommandsJudged.{commands_are_judged}
+use Rattle.bank_meaning.proofs.CommandsDenied.{commands_deny_no_more, ending_passes, listing_is_denied_no_more, opening_is_denied_no_more}
+use Rattle.bank_meaning.proofs.CommandsJudged.{at_any_moment, commands_are_judged}
 use Rattle.bank_meaning.proofs.AllowedRequest.{no_one_executes_what_he_certifies}
 use Rattle.bank_meaning.proofs.FirstRule.{first_by_place}
 use Rattle.bank_meaning.proofs.JudgedPolicy.{allowed_exactly_when_held}
 use Rattle.bank_meaning.proofs.KeptReplies.{replies_are_kept}
 use Rattle.bank_meaning.proofs.LastWord.{last_word}
 use Rattle.bank_meaning.proofs.Recorded.{rows_say_what_was_asked}
+use Rattle.bank_meaning.proofs.SessionReplies.{ending_replied, opening_replied}
 use Rattle.bank_meaning.proofs.RunSums.{sums_always_agree}
 
 -- ---- one request
+
+-- what no rule denies of all that is asked at no moment none denies at its own
+unasked : (w : WorldLists) (q : Request) (what : Asked) → q.asked ≡ what → first w (at_any_moment q what) ≡ None → first w q ≡ None
+unasked w q what asks is = subst (λ what. first w (at_any_moment q what) ≡ None) (sym asks) is
 
 made_rightly : (w : WorldLists) (q : Request) → PassesChecks w → IsProper q → IsMadeRightly w q (step w q)
 made_rightly w q checks proper = record {
   named = first_by_place.2 w q;
   carried_out = λ fresh allowed. (
     ap (λ o. unless_repeated o (if_allowed (first w q) (effect w q) w) w) fresh ∙ ap (λ r. if_allowed r (effect w q) w) allowed,
-    ap (λ o. told_again o (told (first w q) (reply_text w q))) fresh ∙ ap (λ r. told r (reply_text w q)) allowed,
+    ap (λ o. repeated_reply o (stated (first w q) (reply_text w q))) fresh ∙ ap (λ r. stated r (reply_text w q)) allowed,
   );
   denied = λ r fresh is. (
     ap (λ o. unless_repeated o (if_allowed (first w q) (effect w q) w) w) fresh ∙ ap (λ r. if_allowed r (effect w q) w) is,
-    ap (λ o. told_again o (told (first w q) (reply_text w q))) fresh ∙ ap (λ r. told r (reply_text w q)) is,
+    ap (λ o. repeated_reply o (stated (first w q) (reply_text w q))) fresh ∙ ap (λ r. stated r (reply_text w q)) is,
   );
   again = λ kept is. (
     ap (λ o. unless_repeated o (if_allowed (first w q) (effect w q) w) w) is,
-    ap (λ o. told_again o (told (first w q) (reply_text w q))) is,
+    ap (λ o. repeated_reply o (stated (first w q) (reply_text w q))) is,
   );
   held = λ x same. subst (λ r. first w r ≡ None ↔ IsHeld w x) (sym same) (allowed_exactly_when_held w x);
   judged = λ x same is. books_are_judged w x (subst (λ r. first w r ≡ None) same is);
@@ -50,8 +58,16 @@ made_rightly w q checks proper = record {
       let accepted = ap₂ (λ o r. is_none o && is_none r) (ap (repeated w) (sym same) ∙ fresh) (ap (first w) (sym same) ∙ allowed) in
       subst (λ r. RowsAreAsked w (step w r) x) (sym same) ((rows_say_what_was_asked w x checks (subst IsProper same proper)).accepted accepted);
   apart = λ x same is. no_one_executes_what_he_certifies w x checks.separated (subst (λ r. first w r ≡ None) same is);
-  commanded = λ c asks is. (commands_are_judged w).command q c asks is;
-  listed = λ asks is. (commands_are_judged w).listing q asks is;
+  commanded = λ c asks. ((commands_are_judged w).command q c asks, λ is. unasked w q _ asks (commands_deny_no_more w q.who c checks is));
+  listed = λ asks. ((commands_are_judged w).listing q asks, λ is. unasked w q _ asks (listing_is_denied_no_more w q.who checks is));
+  opened = λ asks. ((commands_are_judged w).opening q asks, λ is. unasked w q _ asks (opening_is_denied_no_more w q.who.user is));
+  ended = λ asks. ((commands_are_judged w).ending q asks, λ is. unasked w q _ asks (ending_passes w q.who is));
+  opened_as = λ asks is.
+      subst (λ what. IsSessionReplied (step w (at_any_moment q what)) q.who true opening_text (reply w (at_any_moment q what))) (sym asks)
+      (opening_replied w q.who q.moment (subst (λ what. first w (at_any_moment q what) ≡ None) asks is));
+  ended_as = λ asks is.
+      subst (λ what. IsSessionReplied (step w (at_any_moment q what)) q.who false ending_text (reply w (at_any_moment q what))) (sym asks)
+      (ending_replied w q.who q.moment (subst (λ what. first w (at_any_moment q what) ≡ None) asks is));
 }
 
 treated : (w : WorldLists) (m : Marked) → PassesChecks w → (m.mark ≡ None → IsProper m.request) → IsTreatedRightly w m (after_request w m)

@@ -77,3 +77,6 @@ pub record IsForm (o : Op) : Type 0 where
   pub cash : is_drawer_off o ≡ false → (by : Signature) (w : WorldLists) (branch place : ℕ) → unsigned_abs (placed branch place (changed_by (form_of o) by w)) ≤ amount o
   -- and then the rows that it writes are those that were asked for
   pub asked : (by : Signature) (w : WorldLists) → (form_of o).IsJudged w by.user → AreWritten o by w (changed_by (form_of o) by w)
+  -- and its reply says what is so after it
+  pub replied : (by : Signature) (w : WorldLists) → PassesChecks w → IsOp o → (form_of o).IsJudged w by.user → IsStep w (meaning_of o by w).effect (moves_of o)
+      → (form_of o).IsReplied by w (meaning_of o by w).effect (changed_by (form_of o) by w) (meaning_of o by w).reply

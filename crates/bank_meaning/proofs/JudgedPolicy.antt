@@ -10,7 +10,7 @@ use Rattle.bank_policy.specs.declared.rows.Standing.{Standing}
 use Rattle.bank_terms.specs.declared.rule.Rule.{Rule}
 use Rattle.bank_terms.specs.declared.rule.Rule.TheVariants as rule
 use Rattle.bank_policy.proofs.RowsTell.{certified_by_rows, held_by_rows}
-use Rattle.bank_policy.proofs.Tested.{certified_tested, certified_told, held_by_some, held_up_to, some_holds, up_to_holds}
+use Rattle.bank_policy.proofs.Tested.{certified_tested, certified_of_test, held_by_some, held_up_to, some_holds, up_to_holds}
 use Rattle.bank_books.specs.WorldLists.{WorldLists}
 use Rattle.counter_ops.specs.Op.{procedure_of}
 use Rattle.counter_ops.specs.Touched.{amount, touched}
@@ -20,25 +20,25 @@ use Rattle.bank_meaning.specs.PolicyRules.{asker, grounds, is_identified, is_in_
 use Rattle.bank_meaning.specs.Requests.{denies, executes}
 use Rattle.bank_meaning.specs.Sessions.{standing_of_asker}
 use Rattle.bank_meaning.specs.declared.execution.Execution.{Execution}
-use Rattle.bank_meaning.specs.declared.leave.Leave.TheVariants as leave
+use Rattle.bank_meaning.specs.declared.leave.Authorization.TheVariants as leave
 use Rattle.bank_meaning.proofs.AllowedRequest.{allowed_by_books}
 use Rattle.bank_meaning.proofs.CountingRelease.{released_by_grounds}
-use Rattle.bank_meaning.proofs.SlipFirst.{has_room, not_another, slip_passes}
+use Rattle.bank_meaning.proofs.SlipFirst.{has_room, not_another, slip_passes, slip_tested, slip_of_test}
 use Rattle.bank_meaning.proofs.PolicyLemmas.{books_decide}
 use Rattle.bank_meaning.specs.declared.who.Who.{Who}
 use Rattle.bank_meaning.proofs.FirstRule.{none_denies}
 
 -- a test that does not deny exactly where the other one passes
 passed : (b : Bool) {P : Type 0} → (b ≡ true → P) → (P → b ≡ true) → (not b ≡ false → P) × (P → not b ≡ false)
-passed true told tested = (λ is. told refl, λ holds. refl)
-passed false told tested = (λ is. absurd cc, λ holds. let yes = tested holds in absurd cc)
+passed true stated tested = (λ is. stated refl, λ holds. refl)
+passed false stated tested = (λ is. absurd cc, λ holds. let yes = tested holds in absurd cc)
 
 -- ---- who asks
 
 -- the parts of the test of identity
-told_row : (row : Standing) (session : ℕ) → (not (session == 0) && (not row.suspended && (row.on && row.session == session))) ≡ true
+stated_row : (row : Standing) (session : ℕ) → (not (session == 0) && (not row.suspended && (row.on && row.session == session))) ≡ true
     → (row.suspended ≡ false) × (row.on ≡ true) × (row.session ≡ session) × (session ≢ 0)
-told_row row session is =
+stated_row row session is =
     let first = and_parts (not (session == 0)) (not row.suspended && (row.on && row.session == session)) is in
     let second = and_parts (not row.suspended) (row.on && row.session == session) first.1 in
     let third = and_parts row.on (row.session == session) second.1 in
@@ -52,16 +52,16 @@ tested_row row session active on present given =
     ∙ ap (λ b. b && row.session == session) on
     ∙ eq-eqb row.session session present
 
-told_standing : (w : WorldLists) (user session release slip : ℕ) (o : Option Standing) → standing w.policy user ≡ o → is_identified o session ≡ true
+stated_standing : (w : WorldLists) (user session release slip : ℕ) (o : Option Standing) → standing w.policy user ≡ o → is_identified o session ≡ true
     → IsIdentified w (record { user = Some user; session = session; release = release; slip = slip })
-told_standing w user session release slip None at is = absurd cc
-told_standing w user session release slip (Some row) at is =
-    let told = told_row row session is in
-    record { user = user; row = row; named = refl; there = at; active = told.0; on = told.1; present = told.2; given = told.3 }
+stated_standing w user session release slip None at is = absurd cc
+stated_standing w user session release slip (Some row) at is =
+    let stated = stated_row row session is in
+    record { user = user; row = row; named = refl; there = at; active = stated.0; on = stated.1; present = stated.2; given = stated.3 }
 
-told_user : (w : WorldLists) (user : Option ℕ) (session release slip : ℕ) → is_identified (option_and_then (λ u. standing w.policy u) user) session ≡ true → IsIdentified w (record { user = user; session = session; release = release; slip = slip })
-told_user w None session release slip is = absurd cc
-told_user w (Some user) session release slip is = told_standing w user session release slip (standing w.policy user) refl is
+stated_user : (w : WorldLists) (user : Option ℕ) (session release slip : ℕ) → is_identified (option_and_then (λ u. standing w.policy u) user) session ≡ true → IsIdentified w (record { user = user; session = session; release = release; slip = slip })
+stated_user w None session release slip is = absurd cc
+stated_user w (Some user) session release slip is = stated_standing w user session release slip (standing w.policy user) refl is
 
 tested_user : (w : WorldLists) (who : Who) → IsIdentified w who → is_identified (option_and_then (λ u. standing w.policy u) who.user) who.session ≡ true
 tested_user w who known =
@@ -70,18 +70,18 @@ tested_user w who known =
     ∙ tested_row known.row who.session known.active known.on known.present known.given
 
 identified_passed : (w : WorldLists) (q : Execution) → (denies rule.Identity w (executes q) ≡ false → IsIdentified w q.who) × (IsIdentified w q.who → denies rule.Identity w (executes q) ≡ false)
-identified_passed w q = passed (is_identified (grounds w q).standing q.who.session) (told_user w q.who.user q.who.session q.who.release q.who.slip) (tested_user w q.who)
+identified_passed w q = passed (is_identified (grounds w q).standing q.who.session) (stated_user w q.who.user q.who.session q.who.release q.who.slip) (tested_user w q.who)
 
 pub known_passed : (w : WorldLists) (who : Who) → (not (is_identified (standing_of_asker who w) who.session) ≡ false → IsIdentified w who) × (IsIdentified w who → not (is_identified (standing_of_asker who w) who.session) ≡ false)
-known_passed w who = passed (is_identified (standing_of_asker who w) who.session) (told_user w who.user who.session who.release who.slip) (tested_user w who)
+known_passed w who = passed (is_identified (standing_of_asker who w) who.session) (stated_user w who.user who.session who.release who.slip) (tested_user w who)
 
-told_active : (w : WorldLists) (user : ℕ) (o : Option Standing) → standing w.policy user ≡ o → is_active o ≡ true → MayOpen w (Some user)
-told_active w user None at is = absurd cc
-told_active w user (Some row) at is = record { user = user; row = row; named = refl; there = at; active = not-true row.suspended is }
+stated_active : (w : WorldLists) (user : ℕ) (o : Option Standing) → standing w.policy user ≡ o → is_active o ≡ true → MayOpen w (Some user)
+stated_active w user None at is = absurd cc
+stated_active w user (Some row) at is = record { user = user; row = row; named = refl; there = at; active = not-true row.suspended is }
 
-told_opening : (w : WorldLists) (user : Option ℕ) → is_active (option_and_then (λ u. standing w.policy u) user) ≡ true → MayOpen w user
-told_opening w None is = absurd cc
-told_opening w (Some user) is = told_active w user (standing w.policy user) refl is
+stated_opening : (w : WorldLists) (user : Option ℕ) → is_active (option_and_then (λ u. standing w.policy u) user) ≡ true → MayOpen w user
+stated_opening w None is = absurd cc
+stated_opening w (Some user) is = stated_active w user (standing w.policy user) refl is
 
 tested_opening : (w : WorldLists) (user : Option ℕ) → MayOpen w user → is_active (option_and_then (λ u. standing w.policy u) user) ≡ true
 tested_opening w user may =
@@ -93,7 +93,7 @@ pub identity_is_judged : IdentityIsJudged
 identity_is_judged w = record {
   command = λ command who. known_passed w who;
   ending = λ who. known_passed w who;
-  opening = λ user. passed (is_active (option_and_then (λ u. standing w.policy u) user)) (told_opening w user) (tested_opening w user);
+  opening = λ user. passed (is_active (option_and_then (λ u. standing w.policy u) user)) (stated_opening w user) (tested_opening w user);
 }
 
 -- ---- the relations and the triples
@@ -102,7 +102,7 @@ certified_passed : (w : WorldLists) (q : Execution) → (denies rule.NotCertifie
 certified_passed w q =
     let rows = relations_of w.policy (procedure_of q.op) in
     let law = certified_by_rows w.policy (procedure_of q.op) (touched q.op) in
-    passed (is_certified rows (touched q.op)) (λ is. law.1 (certified_told rows (touched q.op) is)) (λ holds. certified_tested rows (touched q.op) (law.0 holds))
+    passed (is_certified rows (touched q.op)) (λ is. law.1 (certified_of_test rows (touched q.op) is)) (λ holds. certified_tested rows (touched q.op) (law.0 holds))
 
 held_passed : (w : WorldLists) (q : Execution) →
     (denies rule.NoTriple w (executes q) ≡ false → (limit : ℕ) × Held w.policy (asker q.who) (procedure_of q.op) (touched q.op) limit q.moment)
@@ -185,7 +185,7 @@ policy_is_judged w q = record { identified = identified_passed w q; certified = 
 
 -- ---- and all rules together
 
-none_found : {X : Type 0} (p : X → Bool) (xs : List X) → ((x : X) → p x ≡ false) → find p xs ≡ None
+pub none_found : {X : Type 0} (p : X → Bool) (xs : List X) → ((x : X) → p x ≡ false) → find p xs ≡ None
 none_found p [] fails = refl
 none_found p (x ∷ xs) fails = ap (λ b. if b then Some x else find p xs) (fails x) ∙ none_found p xs fails
 
@@ -201,12 +201,12 @@ policy_passes w q known certified held limit release rule.Release = release
 policy_passes w q known certified held limit release _ = refl
 
 -- the limit and the release together
-told_either : (w : WorldLists) (q : Execution) → (limit : ℕ) × Held w.policy (asker q.who) (procedure_of q.op) (touched q.op) limit q.moment
+stated_either : (w : WorldLists) (q : Execution) → (limit : ℕ) × Held w.policy (asker q.who) (procedure_of q.op) (touched q.op) limit q.moment
     → InLimit w (asker q.who) q.op q.moment ⊎ (q.who.release ≢ 0) → InLimit w (asker q.who) q.op q.moment ⊎ ((q.who.release ≡ 0) ⊎ Released w (asker q.who) q.who.release q.op q.moment) → InLimitOrReleased w q
-told_either w q held (inl in_limit) released = inl in_limit
-told_either w q held (inr named) (inl in_limit) = inl in_limit
-told_either w q held (inr named) (inr (inl none)) = absurd (named none)
-told_either w q held (inr named) (inr (inr released)) = inr (held, record { named = named; counts = released })
+stated_either w q held (inl in_limit) released = inl in_limit
+stated_either w q held (inr named) (inl in_limit) = inl in_limit
+stated_either w q held (inr named) (inr (inl none)) = absurd (named none)
+stated_either w q held (inr named) (inr (inr released)) = inr (held, record { named = named; counts = released })
 
 held_either : (w : WorldLists) (q : Execution) → InLimitOrReleased w q → (limit : ℕ) × Held w.policy (asker q.who) (procedure_of q.op) (touched q.op) limit q.moment
 held_either w q (inl in_limit) = (in_limit.0, in_limit.1.0)
@@ -226,12 +226,12 @@ allowed_exactly_when_held w q = (
       let each : (r : Rule) → denies r w (executes q) ≡ false = λ r. none_denies w (executes q) r is in (
         (identified_passed w q).0 (each rule.Identity),
         (certified_passed w q).0 (each rule.NotCertified),
-        told_either w q ((held_passed w q).0 (each rule.NoTriple)) ((limit_passed w q).0 (each rule.Limit)) ((release_passed w q).0 (each rule.Release)),
+        stated_either w q ((held_passed w q).0 (each rule.NoTriple)) ((limit_passed w q).0 (each rule.Limit)) ((release_passed w q).0 (each rule.Release)),
         allowed_by_books w q is,
-        record { not_another = not_another w q is; has_room = has_room w q is },
+        slip_of_test w q (not_another w q is) (has_room w q is),
       ),
   λ says.
-      slip_passes w q says.4.not_another says.4.has_room
+      (let parts = slip_tested w q says.4 in slip_passes w q parts.0 parts.1)
       ∙ books_decide w q (none_found (λ r. policy_denies r (grounds w q)) (rule.Identity ∷ rule.NotCertified ∷ rule.NoTriple ∷ rule.Limit ∷ rule.Release ∷ [])
       (policy_passes w q says.0 says.1 (held_either w q says.2) (limit_either w q says.2) (release_either w q says.2)))
       ∙ says.3,

@@ -22,13 +22,13 @@ use Rattle.bank_meaning.specs.Once.{is_out}
 use Rattle.bank_meaning.specs.PolicyRules.{asker, grounds, is_identified}
 use Rattle.bank_meaning.specs.Repeats.{BearsSlipOf, RepliesAreKept}
 use Rattle.bank_meaning.specs.Requests.{effect, executes, first, repeated, reply_text}
-use Rattle.bank_meaning.specs.Run.{Marked, after_request, if_allowed, step, told, told_again, unless_repeated, world_after}
+use Rattle.bank_meaning.specs.Run.{Marked, after_request, if_allowed, step, stated, repeated_reply, unless_repeated, world_after}
 use Rattle.bank_meaning.specs.Slips.{SlipGrounds, has_no_room, is_of_another, kept_reply, slip_grounds, slip_named, slip_of}
 use Rattle.bank_meaning.specs.declared.execution.Execution.{Execution}
 use Rattle.bank_meaning.specs.declared.request.Asked.{Asked}
 use Rattle.bank_meaning.specs.declared.request.Asked.TheVariants as asked
 use Rattle.bank_meaning.specs.declared.who.Who.{Who}
-use Rattle.bank_meaning.proofs.CountingRelease.{same_tested, same_told}
+use Rattle.bank_meaning.proofs.CountingRelease.{same_tested, same_of_test}
 use Rattle.bank_meaning.proofs.SlipSteps.{first_by, neither, out_operation}
 use Rattle.bank_meaning.proofs.SlipsAside.{command_beside, execution_beside}
 
@@ -133,7 +133,7 @@ other_tested : (row other : OperationRow) → row ≢ other → is_same_operatio
 other_tested row other differ = go (is_same_operation row other) refl
   where
     go : (b : Bool) → is_same_operation row other ≡ b → b ≡ false
-    go true is = absurd (differ (same_told row other is))
+    go true is = absurd (differ (same_of_test row other is))
     go false is = refl
 
 is_known : (b : Bool) → not b ≡ false → b ≡ true
@@ -201,10 +201,10 @@ replies_are_kept w x ms named is =
     record {
       left = λ y bears same.
           ap (λ r. unless_repeated r (if_allowed (first v (executes y)) (effect v (executes y)) v) v) (repeats v x y row bears named there (same_tested (row_of x.op) (row_of y.op) (sym same)));
-      told = λ y bears same.
-          ap (λ r. told_again r (told (first v (executes y)) (reply_text v (executes y)))) (repeats v x y row bears named there (same_tested (row_of x.op) (row_of y.op) (sym same)));
+      stated = λ y bears same.
+          ap (λ r. repeated_reply r (stated (first v (executes y)) (reply_text v (executes y)))) (repeats v x y row bears named there (same_tested (row_of x.op) (row_of y.op) (sym same)));
       denied = λ y bears differ.
           let other = other_tested (row_of x.op) (row_of y.op) (λ same. differ (sym same)) in
-          ap (λ r. told_again r (told (first v (executes y)) (reply_text v (executes y)))) (differs v x y row bears named there other)
-          ∙ ap (λ f. told f (reply_text v (executes y))) (denied v x y row bears named there other);
+          ap (λ r. repeated_reply r (stated (first v (executes y)) (reply_text v (executes y)))) (differs v x y row bears named there other)
+          ∙ ap (λ f. stated f (reply_text v (executes y))) (denied v x y row bears named there other);
     }

@@ -9,7 +9,7 @@ use Rattle.bank_books.specs.WorldLists.{WorldLists}
 use Rattle.bank_policy.specs.Policy.{PolicyLists}
 use Rattle.policy_check.specs.Soundness.{IsPolicySound}
 use Rattle.bank_meaning.specs.InForce.{IsInForce}
-use Rattle.bank_meaning.specs.LastWord.{LastWord, finds_room, heard, is_command, is_heard}
+use Rattle.bank_meaning.specs.LastWord.{LastWord, finds_room, effective, is_command, is_effective}
 use Rattle.bank_meaning.specs.Order.{IsPolicyInOrder}
 use Rattle.bank_meaning.specs.Requests.{first}
 use Rattle.bank_meaning.specs.Run.{Marked, accepted, after_request, is_accepted, world_after}
@@ -35,26 +35,26 @@ last_checks w [] checks proper = checks
 last_checks w (m ∷ ms) checks proper = last_checks (after_request w m) ms (next_checks w m ms checks proper) (All-tail Proper m ms proper)
 
 -- what the first request leaves
-next : (w : WorldLists) (m : Marked) (ms : List Marked) → PassesChecks w → AreProper (m ∷ ms) → IsNext (is_heard w m) m.request w (after_request w m)
+next : (w : WorldLists) (m : Marked) (ms : List Marked) → PassesChecks w → AreProper (m ∷ ms) → IsNext (is_effective w m) m.request w (after_request w m)
 next w m ms checks proper = one_request w m checks (All-head Proper m ms proper)
 
 -- ---- the policy in force
 
-in_force_along : (w : WorldLists) (ms : List Marked) → PassesChecks w → AreProper ms → IsInForce w.policy (heard w ms) (world_after w ms).policy
+in_force_along : (w : WorldLists) (ms : List Marked) → PassesChecks w → AreProper ms → IsInForce w.policy (effective w ms) (world_after w ms).policy
 in_force_along w [] checks proper = opening_in_force w.policy
 in_force_along w (m ∷ ms) checks proper =
-    go (is_heard w m) (next w m ms checks proper) (in_force_along (after_request w m) ms (next_checks w m ms checks proper) (All-tail Proper m ms proper))
+    go (is_effective w m) (next w m ms checks proper) (in_force_along (after_request w m) ms (next_checks w m ms checks proper) (All-tail Proper m ms proper))
   where
-    go : (b : Bool) → IsNext b m.request w (after_request w m) → IsInForce (after_request w m).policy (heard (after_request w m) ms) (world_after (after_request w m) ms).policy
-        → IsInForce w.policy (if b then m.request ∷ heard (after_request w m) ms else heard (after_request w m) ms) (world_after (after_request w m) ms).policy
-    go true here rest = first_said m.request (heard (after_request w m) ms) w.policy (after_request w m).policy (world_after (after_request w m) ms).policy here.said rest
-    go false here rest = subst (λ p. IsInForce p (heard (after_request w m) ms) (world_after (after_request w m) ms).policy) here.policy rest
+    go : (b : Bool) → IsNext b m.request w (after_request w m) → IsInForce (after_request w m).policy (effective (after_request w m) ms) (world_after (after_request w m) ms).policy
+        → IsInForce w.policy (if b then m.request ∷ effective (after_request w m) ms else effective (after_request w m) ms) (world_after (after_request w m) ms).policy
+    go true here rest = first_said m.request (effective (after_request w m) ms) w.policy (after_request w m).policy (world_after (after_request w m) ms).policy here.said rest
+    go false here rest = subst (λ p. IsInForce p (effective (after_request w m) ms) (world_after (after_request w m) ms).policy) here.policy rest
 
-alone : (w : WorldLists) (ms : List Marked) → PassesChecks w → AreProper ms → (p : PolicyLists) → IsPolicySound p → IsPolicyInOrder p → IsInForce w.policy (heard w ms) p
+alone : (w : WorldLists) (ms : List Marked) → PassesChecks w → AreProper ms → (p : PolicyLists) → IsPolicySound p → IsPolicyInOrder p → IsInForce w.policy (effective w ms) p
     → p ≡ (world_after w ms).policy
 alone w ms checks proper p sound order rows =
     let last = last_checks w ms checks proper in
-    one_in_force w.policy (heard w ms) p (world_after w ms).policy sound order rows last.sound last.in_order.policy (in_force_along w ms checks proper)
+    one_in_force w.policy (effective w ms) p (world_after w ms).policy sound order rows last.sound last.in_order.policy (in_force_along w ms checks proper)
 
 -- ---- the version, and who is heard
 
@@ -68,17 +68,17 @@ one_if_command m = cond (is_command m.request.asked) 1 0
 raised : (before mid after one rest all : ℕ) → mid ≡ before + one → after ≡ mid + rest → all ≡ one + rest → after ≡ before + all
 raised before mid after one rest all here later sum = omega arith
 
-version_along : (w : WorldLists) (ms : List Marked) → PassesChecks w → AreProper ms → (world_after w ms).version ≡ w.version + commands_of (heard w ms)
+version_along : (w : WorldLists) (ms : List Marked) → PassesChecks w → AreProper ms → (world_after w ms).version ≡ w.version + commands_of (effective w ms)
 version_along w [] checks proper = none_more w.version
 version_along w (m ∷ ms) checks proper =
-    go (is_heard w m) (next w m ms checks proper) (version_along (after_request w m) ms (next_checks w m ms checks proper) (All-tail Proper m ms proper))
+    go (is_effective w m) (next w m ms checks proper) (version_along (after_request w m) ms (next_checks w m ms checks proper) (All-tail Proper m ms proper))
   where
-    go : (b : Bool) → IsNext b m.request w (after_request w m) → (world_after (after_request w m) ms).version ≡ (after_request w m).version + commands_of (heard (after_request w m) ms)
-        → (world_after (after_request w m) ms).version ≡ w.version + commands_of (if b then m.request ∷ heard (after_request w m) ms else heard (after_request w m) ms)
+    go : (b : Bool) → IsNext b m.request w (after_request w m) → (world_after (after_request w m) ms).version ≡ (after_request w m).version + commands_of (effective (after_request w m) ms)
+        → (world_after (after_request w m) ms).version ≡ w.version + commands_of (if b then m.request ∷ effective (after_request w m) ms else effective (after_request w m) ms)
     go true here rest =
-        raised w.version (after_request w m).version (world_after (after_request w m) ms).version (one_if_command m) (commands_of (heard (after_request w m) ms)) _ here.version rest
-        (sum_by-cons (λ r. cond (is_command r.asked) 1 0) m.request (heard (after_request w m) ms))
-    go false here rest = rest ∙ ap (λ v. v + commands_of (heard (after_request w m) ms)) here.version
+        raised w.version (after_request w m).version (world_after (after_request w m) ms).version (one_if_command m) (commands_of (effective (after_request w m) ms)) _ here.version rest
+        (sum_by-cons (λ r. cond (is_command r.asked) 1 0) m.request (effective (after_request w m) ms))
+    go false here rest = rest ∙ ap (λ v. v + commands_of (effective (after_request w m) ms)) here.version
 
 -- no room is found by a command at the greatest version alone
 no_room : (w : WorldLists) (a : Asked) → finds_room w a ≡ false → (is_command a ≡ true) × (max_version ≤ w.version)
@@ -94,16 +94,16 @@ used_up version one rest all command sum high within = omega arith
 enough_left : (version next one rest all : ℕ) → next ≡ version + one → all ≡ one + rest → version + all ≤ max_version → next + rest ≤ max_version
 enough_left version next one rest all here sum within = omega arith
 
-all_heard : (w : WorldLists) (ms : List Marked) → PassesChecks w → AreProper ms → w.version + commands_of (accepted w ms) ≤ max_version → heard w ms ≡ accepted w ms
-all_heard w [] checks proper within = refl
-all_heard w (m ∷ ms) checks proper within =
+all_effective : (w : WorldLists) (ms : List Marked) → PassesChecks w → AreProper ms → w.version + commands_of (accepted w ms) ≤ max_version → effective w ms ≡ accepted w ms
+all_effective w [] checks proper within = refl
+all_effective w (m ∷ ms) checks proper within =
     go (is_accepted w m) (finds_room w m.request.asked) refl (next w m ms checks proper) within
-    (all_heard (after_request w m) ms (next_checks w m ms checks proper) (All-tail Proper m ms proper))
+    (all_effective (after_request w m) ms (next_checks w m ms checks proper) (All-tail Proper m ms proper))
   where
     go : (b c : Bool) → finds_room w m.request.asked ≡ c → IsNext (b && c) m.request w (after_request w m)
         → w.version + commands_of (if b then m.request ∷ accepted (after_request w m) ms else accepted (after_request w m) ms) ≤ max_version
-        → ((after_request w m).version + commands_of (accepted (after_request w m) ms) ≤ max_version → heard (after_request w m) ms ≡ accepted (after_request w m) ms)
-        → (if b && c then m.request ∷ heard (after_request w m) ms else heard (after_request w m) ms) ≡ (if b then m.request ∷ accepted (after_request w m) ms else accepted (after_request w m) ms)
+        → ((after_request w m).version + commands_of (accepted (after_request w m) ms) ≤ max_version → effective (after_request w m) ms ≡ accepted (after_request w m) ms)
+        → (if b && c then m.request ∷ effective (after_request w m) ms else effective (after_request w m) ms) ≡ (if b then m.request ∷ accepted (after_request w m) ms else accepted (after_request w m) ms)
     go true true room here within later =
         ap (λ rs. m.request ∷ rs)
         (later (enough_left w.version (after_request w m).version (one_if_command m) (commands_of (accepted (after_request w m) ms)) _ here.version
@@ -119,7 +119,7 @@ last_word = (
   λ w ms checks proper. record {
     in_force = λ n. in_force_along w (take n ms) checks (All-take Proper n ms proper);
     version = version_along w ms checks proper;
-    all_heard = all_heard w ms checks proper;
+    all_effective = all_effective w ms checks proper;
     alone = alone w ms checks proper;
     rules = λ p sound order rows q. ap (λ policy. first (record (world_after w ms) { policy = policy }) q) (alone w ms checks proper p sound order rows);
   },

@@ -14,8 +14,8 @@ use Rattle.bank_meaning.specs.Operations.{form_of, meaning_of}
 use Rattle.bank_meaning.specs.PolicyRules.{asker, grounds, leave_of, used_by}
 use Rattle.bank_meaning.specs.Requests.{effect, executes}
 use Rattle.bank_meaning.specs.declared.execution.Execution.{Execution}
-use Rattle.bank_meaning.specs.declared.leave.Leave.{Leave}
-use Rattle.bank_meaning.specs.declared.leave.Leave.TheVariants as leave
+use Rattle.bank_meaning.specs.declared.leave.Authorization.{Authorization}
+use Rattle.bank_meaning.specs.declared.leave.Authorization.TheVariants as leave
 use Rattle.bank_meaning.proofs.BookChanges.{IsPolicyKept, policy_kept}
 use Rattle.bank_meaning.proofs.Forms.{law_of}
 
@@ -23,7 +23,7 @@ by_form : (w : WorldLists) (o : Op) (by : Signature) → IsPolicyKept w (meaning
 by_form w o by = subst (λ m. IsPolicyKept w m.effect) (sym ((law_of o).said by w)) (policy_kept (changed_by (form_of o) by w) w ((law_of o).books_alone ((form_of o).rows by w) by))
 
 -- and a release that is used up with it is none of the policy
-with_leave : (l : Leave) (user : ℕ) (w after : WorldLists) → IsPolicyKept w after → IsPolicyKept w (used_by l user after)
+with_leave : (l : Authorization) (user : ℕ) (w after : WorldLists) → IsPolicyKept w after → IsPolicyKept w (used_by l user after)
 with_leave leave.Triple user w after kept = kept
 with_leave (leave.Release number) user w after kept = record { policy = kept.policy; version = kept.version }
 

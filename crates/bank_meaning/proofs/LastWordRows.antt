@@ -109,9 +109,9 @@ same_first : {X : Type 0} (key : X → ℕ) (x : X) (xs : List X) (y : X) (ys : 
 same_first {X = X} key x xs y ys order order' distinct there here =
     elim (Contains-cons_cases x xs y there) [
       | inl same ↦ same
-      | inr behind ↦ elim (Contains-cons_cases y ys x here) [
+      | inr following ↦ elim (Contains-cons_cases y ys x here) [
         | inl same ↦ sym same
-        | inr later ↦ absurd (first_apart key x xs y distinct behind (between (key x) (key y) (first_lowest key x xs y order behind) (first_lowest key y ys x order' later)))
+        | inr later ↦ absurd (first_apart key x xs y distinct following (between (key x) (key y) (first_lowest key x xs y order following) (first_lowest key y ys x order' later)))
       ]
     ]
   where
@@ -119,12 +119,12 @@ same_first {X = X} key x xs y ys order order' distinct there here =
     between a b low high = omega arith
 
 -- a row after the first is one of the other list's, and not the first of them
-still_behind : {X : Type 0} (key : X → ℕ) (x : X) (xs : List X) (y : X) (ys : List X) → AreDistinct (map key (x ∷ xs)) → x ≡ y → ((z : X) → Contains (x ∷ xs) z → Contains (y ∷ ys) z)
+still_following : {X : Type 0} (key : X → ℕ) (x : X) (xs : List X) (y : X) (ys : List X) → AreDistinct (map key (x ∷ xs)) → x ≡ y → ((z : X) → Contains (x ∷ xs) z → Contains (y ∷ ys) z)
     → (z : X) → Contains xs z → Contains ys z
-still_behind key x xs y ys distinct same among z there =
+still_following key x xs y ys distinct same among z there =
     elim (Contains-cons_cases y ys z (among z (Contains-tail x xs z there))) [
       | inl first ↦ absurd (first_apart key x xs z distinct there (ap key (same ∙ first)))
-      | inr behind ↦ behind
+      | inr following ↦ following
     ]
 
 -- Two lists of the same rows, each in order of distinct keys, are one.
@@ -135,8 +135,8 @@ same_rows key [] (y ∷ ys) order order' distinct distinct' among back = absurd 
 same_rows key (x ∷ xs) [] order order' distinct distinct' among back = absurd (none_there (among x (Contains-head x xs)))
 same_rows key (x ∷ xs) (y ∷ ys) order order' distinct distinct' among back =
     let same = same_first key x xs y ys order order' distinct (back y (Contains-head y ys)) (among x (Contains-head x xs)) in
-    let rest = same_rows key xs ys (rest_in_order key x xs order) (rest_in_order key y ys order') distinct.1 distinct'.1 (still_behind key x xs y ys distinct same among)
-    (still_behind key y ys x xs distinct' (sym same) back) in
+    let rest = same_rows key xs ys (rest_in_order key x xs order) (rest_in_order key y ys order') distinct.1 distinct'.1 (still_following key x xs y ys distinct same among)
+    (still_following key y ys x xs distinct' (sym same) back) in
     ap (λ z. z ∷ xs) same ∙ ap (λ zs. y ∷ zs) rest
 
 -- rows that are found in one list as in another stand there, too

@@ -72,28 +72,28 @@ said_first None here opening = refl
 said_first (Some a) here opening = refl
 
 -- the last word of a list, by that of the requests after the first, over what the first leaves
-behind_first : {A : Type 0} (says : Word A) (r : Request) (rs : List Request) (before between after : A) → between ≡ unwrap_or (says r.who r.asked) before → after ≡ in_force says rs between
+after_first : {A : Type 0} (says : Word A) (r : Request) (rs : List Request) (before between after : A) → between ≡ unwrap_or (says r.who r.asked) before → after ≡ in_force says rs between
     → after ≡ in_force says (r ∷ rs) before
-behind_first says r rs before between after here later = later ∙ ap (λ a. unwrap_or (last_word says rs) a) here ∙ said_first (last_word says rs) (says r.who r.asked) before
+after_first says r rs before between after here later = later ∙ ap (λ a. unwrap_or (last_word says rs) a) here ∙ said_first (last_word says rs) (says r.who r.asked) before
 
 counted : (before between after one rest all : ℕ) → between ≡ before + one → after ≡ between + rest → all ≡ one + rest → after ≡ before + all
 counted before between after one rest all here later sum = omega arith
 
 pub first_said : (r : Request) (rs : List Request) (a b c : PolicyLists) → IsSaid r.who r.asked a b → IsInForce b rs c → IsInForce a (r ∷ rs) c
 first_said r rs a b c here later = record {
-  sets = λ set. behind_first (word_on_set set) r rs (set_row a set) (set_row b set) (set_row c set) (here.sets set) (later.sets set);
+  sets = λ set. after_first (word_on_set set) r rs (set_row a set) (set_row b set) (set_row c set) (here.sets set) (later.sets set);
   relations = λ procedure set.
-      behind_first (word_on_relation procedure set) r rs (relation_row a procedure set) (relation_row b procedure set) (relation_row c procedure set) (here.relations procedure set)
+      after_first (word_on_relation procedure set) r rs (relation_row a procedure set) (relation_row b procedure set) (relation_row c procedure set) (here.relations procedure set)
       (later.relations procedure set);
   triples = λ user procedure set.
-      behind_first (word_on_triple user procedure set) r rs (triple_row a user procedure set) (triple_row b user procedure set) (triple_row c user procedure set)
+      after_first (word_on_triple user procedure set) r rs (triple_row a user procedure set) (triple_row b user procedure set) (triple_row c user procedure set)
       (here.triples user procedure set) (later.triples user procedure set);
   certifiers = λ user procedure.
-      behind_first (word_on_certifier user procedure) r rs (certifier_row a user procedure) (certifier_row b user procedure) (certifier_row c user procedure)
+      after_first (word_on_certifier user procedure) r rs (certifier_row a user procedure) (certifier_row b user procedure) (certifier_row c user procedure)
       (here.certifiers user procedure) (later.certifiers user procedure);
-  users = λ user. behind_first (word_on_user user) r rs (enrolment a user) (enrolment b user) (enrolment c user) (here.users user) (later.users user);
-  suspended = λ user. behind_first (word_on_suspension user) r rs (is_suspended a user) (is_suspended b user) (is_suspended c user) (here.suspended user) (later.suspended user);
-  in_session = λ user. behind_first (word_on_session user) r rs (is_in_session a user) (is_in_session b user) (is_in_session c user) (here.in_session user) (later.in_session user);
+  users = λ user. after_first (word_on_user user) r rs (enrolment a user) (enrolment b user) (enrolment c user) (here.users user) (later.users user);
+  suspended = λ user. after_first (word_on_suspension user) r rs (is_suspended a user) (is_suspended b user) (is_suspended c user) (here.suspended user) (later.suspended user);
+  in_session = λ user. after_first (word_on_session user) r rs (is_in_session a user) (is_in_session b user) (is_in_session c user) (here.in_session user) (later.in_session user);
   sessions = λ user.
       counted (session_number a user) (session_number b user) (session_number c user) (cond (is_opening_of user r.who r.asked) 1 0) (count_by (λ q. is_opening_of user q.who q.asked) rs) _
       (here.sessions user) (later.sessions user) (sum_by-cons (λ q. cond (is_opening_of user q.who q.asked) 1 0) r rs);

@@ -11,7 +11,7 @@ use Rattle.policy_check.specs.Soundness.{IsPolicySound}
 use Rattle.policy_commands.specs.Ranges.{IsPolicyOp}
 use Rattle.policy_commands.specs.declared.policy_op.PolicyOp.{PolicyOp}
 use Rattle.store_rows.specs.Status.{after_mark}
-use Rattle.bank_meaning.specs.LastWord.{LeavesAlone, finds_room, is_command, is_heard}
+use Rattle.bank_meaning.specs.LastWord.{LeavesAlone, finds_room, is_command, is_effective}
 use Rattle.bank_meaning.specs.PolicyRules.{asker}
 use Rattle.bank_meaning.specs.Requests.{effect, first, repeated}
 use Rattle.bank_meaning.specs.Run.{Marked, after_request, if_allowed, unless_repeated}
@@ -34,13 +34,13 @@ asks a who moment = record { who = who; moment = moment; asked = a }
 -- ---- the policy
 
 -- what is heard is said of the policy, and a command raises the version
-pub record IsHeardNext (r : Request) (before after : WorldLists) : Type 0 where
+pub record IsNextEffective (r : Request) (before after : WorldLists) : Type 0 where
   pub said : IsSaid r.who r.asked before.policy after.policy
   pub version : after.version ≡ before.version + cond (is_command r.asked) 1 0
 
 -- from one World to the next, where the request is heard, or not
 abbrev pub IsNext : Bool → Request → WorldLists → WorldLists → Type 0
-IsNext true r before after = IsHeardNext r before after
+IsNext true r before after = IsNextEffective r before after
 IsNext false r before after = IsPolicyKept before after
 
 command_next : (w : WorldLists) (c : PolicyOp) (who : Who) (moment : ℕ) → IsPolicySound w.policy → IsPolicyOp c → first w (asks (asked.Command c) who moment) ≡ None
@@ -66,7 +66,7 @@ by_asked w asked.Ending who moment checks proper is = record {
 by_asked w (asked.Command c) who moment checks proper is = command_next w c who moment checks.sound proper is (nat_lt w.version max_version)
 by_asked w asked.Listing who moment checks proper is = record { said = listing_said who w.policy; version = none_more w.version }
 
-pub one_request : (w : WorldLists) (m : Marked) → PassesChecks w → (m.mark ≡ None → IsProper m.request) → IsNext (is_heard w m) m.request w (after_request w m)
+pub one_request : (w : WorldLists) (m : Marked) → PassesChecks w → (m.mark ≡ None → IsProper m.request) → IsNext (is_effective w m) m.request w (after_request w m)
 one_request w m checks proper = go m.mark (repeated w m.request) (first w m.request) refl refl
   where
     go : (mark : Option Fault) (kept : Option (List ℕ)) (r : Option Rule) → m.mark ≡ mark → first w m.request ≡ r

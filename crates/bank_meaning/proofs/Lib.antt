@@ -10,6 +10,7 @@ pub mod BookChanges
 pub mod BooksJudged
 pub mod CloseDayForm
 pub mod CommandSteps
+pub mod CommandsDenied
 pub mod CommandsJudged
 pub mod CorrectForm
 pub mod CountingRelease
@@ -45,9 +46,15 @@ pub mod Premises
 pub mod ProofForm
 pub mod Questions
 pub mod Recorded
+pub mod Replied
+pub mod RepliedCash
+pub mod RepliedEntries
+pub mod RepliedRows
 pub mod ReleaseForm
 pub mod Retries
 pub mod RunSums
+pub mod SameRows
+pub mod SessionReplies
 pub mod SessionSteps
 pub mod Shares
 pub mod SlipFirst

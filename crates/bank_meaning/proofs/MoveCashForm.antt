@@ -1,11 +1,14 @@
 -- The laws of cash that is moved.
+use Rattle.bank_books.specs.declared.rows.CashLine.{CashLine}
+use Rattle.bank_meaning.specs.AskedRows.{line_says}
+use Rattle.bank_meaning.proofs.RepliedCash.{move_replied}
 use Rattle.bank_books.specs.Balances.{teller_row, branch_row}
 use Rattle.bank_books.specs.Books.{Books}
 use Rattle.bank_books.specs.Cash.{holder_of, place_cash, vault_opening}
 use Rattle.bank_books.specs.Effects.{applied}
 use Rattle.bank_books.specs.Records.{branch_record, teller_record, teller_record_of, branch_record_of}
 use Rattle.bank_books.specs.WorldLists.{WorldLists}
-use Rattle.bank_meaning.proofs.AskedRows.{is_home}
+use Rattle.bank_meaning.proofs.AskedRows.{is_home, placed_next}
 use Rattle.bank_books.specs.declared.row_write.RowWrite.TheVariants as write
 use Rattle.bank_books.specs.declared.rows.Branch.{Branch}
 use Rattle.bank_books.specs.declared.signature.Signature.{Signature}
@@ -157,8 +160,10 @@ move_asked : (by : Signature) (w : WorldLists) (m : MoveCash) → IsMoveJudged w
     → AreWritten (op.MoveCash m) by w (move_changes (move_rows w m) m by)
 move_asked by w m judged =
     let home = is_home w m.branch judged.branch.0 judged.branch.1 in
-    subst (AreWritten (op.MoveCash m) by w) (sym (move_allowed.changes_are w m (record { home = judged.branch.0; home_is = judged.branch.1 }) by))
-    (record { asked = (refl, refl); bear = ((refl, refl, home.day), ((refl, refl, home.day), tt)); days = tt })
+    let there : move_allowed.IsThere w m = record { home = judged.branch.0; home_is = judged.branch.1 } in
+    let next = λ (l : CashLine) (n : ℕ). placed_next w (line_says l) n judged.branch.0.branch m.branch home.key in
+    subst (AreWritten (op.MoveCash m) by w) (sym (move_allowed.changes_are w m there by))
+    (record { asked = (move_allowed.given w m there by, move_allowed.taken w m there by, refl, next (move_allowed.given w m there by) 1, next (move_allowed.taken w m there by) 2); bear = ((refl, refl, home.day), ((refl, refl, home.day), tt)); days = tt })
 
 move_judged : (w : WorldLists) (who : Who) (moment : ℕ) (m : MoveCash) → NoneDenies w who moment (op.MoveCash m) → IsMoveJudged w (asker who) m
 move_judged w who moment m none =
@@ -335,4 +340,5 @@ move_cash_is_form form = record {
   moves = none_within _;
   cash = λ is by w branch place. move_lines w form by branch place;
   asked = λ by w judged. move_asked by w form judged;
+  replied = λ by w checks proper judged step. move_replied by w form checks.books proper judged step;
 }

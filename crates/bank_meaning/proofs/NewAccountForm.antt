@@ -93,4 +93,5 @@ new_account_is_form form = record {
   moves = none_within _;
   cash = λ is by w branch place. no_amount _;
   asked = λ by w judged. record { asked = refl; bear = (tt, tt); days = tt };
+  replied = λ by w checks proper judged step. refl;
 }

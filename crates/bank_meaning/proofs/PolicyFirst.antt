@@ -14,7 +14,7 @@ use Rattle.counter_ops.specs.Rows.{row_of}
 use Rattle.counter_ops.specs.Touched.{amount, touched}
 use Rattle.bank_meaning.specs.Executions.{execution_meaning}
 use Rattle.bank_meaning.specs.Laws.{DeniedBeforeTheBooks, is_before_books}
-use Rattle.bank_meaning.specs.Meaning.{rules_behind_policy}
+use Rattle.bank_meaning.specs.Meaning.{rules_after_policy}
 use Rattle.bank_meaning.specs.NamedRelease.{ReleaseGrounds, release_grounds}
 use Rattle.bank_meaning.specs.PolicyRules.{Grounds, asker, grounds, policy_denies}
 use Rattle.bank_meaning.specs.Slips.{is_of_another, slip_grounds, with_slip}
@@ -33,8 +33,8 @@ as_all p q (x ∷ xs) r all at = go (p x) at (as_all p q xs r parts.1)
     go false at rest = rest at
 
 -- no rule after those of the policy is one before those of the books
-behind : (m : Rule → Bool) (r : Rule) → is_before_books r ≡ true → find m rules_behind_policy ≡ Some r → ⊥
-behind m r of at = false≢true (sym (ap not of) ∙ as_all m (λ other. not (is_before_books other)) rules_behind_policy r refl at)
+following : (m : Rule → Bool) (r : Rule) → is_before_books r ≡ true → find m rules_after_policy ≡ Some r → ⊥
+following m r of at = false≢true (sym (ap not of) ∙ as_all m (λ other. not (is_before_books other)) rules_after_policy r refl at)
 
 -- Six tests stand in front of the others: that of identity, that of the slip, and four of the policy.
 abbrev by_six : Bool → Bool → Bool → Bool → Bool → Bool → Option Rule → Option Rule
@@ -98,7 +98,7 @@ tested g s e rest = by_six (policy_denies rule.Identity g) s (policy_denies rule
 pub denied_before_the_books : DeniedBeforeTheBooks
 denied_before_the_books w v x r of alike is =
     let denied : WorldLists → Rule → Bool = λ u. with_slip (slip_grounds u x) (execution_meaning u x).denies in
-    let books : WorldLists → Option Rule = λ u. find (denied u) rules_behind_policy in
+    let books : WorldLists → Option Rule = λ u. find (denied u) rules_after_policy in
     let on_release : PolicyLists → Option ReleaseGrounds → Bool = λ p released. policy_denies rule.Release (judged_by p released x) in
     let here = release_grounds w (asker x.who) x.who.release x.moment in
     let there = release_grounds v (asker x.who) x.who.release x.moment in
@@ -106,4 +106,4 @@ denied_before_the_books w v x r of alike is =
     subst (λ p. tested (judged_by p there x) (other v) (on_release p there) (books v) ≡ Some r) (sym alike.policy)
     (first_in_both (policy_denies rule.Identity (grounds w x)) (other w) (other v) (policy_denies rule.NotCertified (grounds w x)) (policy_denies rule.NoTriple (grounds w x))
     (policy_denies rule.Limit (grounds w x)) (on_release w.policy here) (on_release w.policy there) (books w) (books v) r alike.slip
-    (λ named. ap (on_release w.policy) (alike.release named)) (behind (denied w) r of) is)
+    (λ named. ap (on_release w.policy) (alike.release named)) (following (denied w) r of) is)

@@ -9,13 +9,13 @@ use Rattle.bank_policy.specs.Triples.{IsBestLimit, IsCertified}
 use Rattle.bank_terms.specs.declared.item.Cdi.{Cdi}
 use Rattle.bank_terms.specs.declared.rule.Rule.{Rule}
 use Rattle.bank_terms.specs.declared.rule.Rule.TheVariants as rule
-use Rattle.bank_policy.proofs.Tested.{certified_tested, certified_told, held_for, held_up_to, none_held, not_held_for, some_held}
+use Rattle.bank_policy.proofs.Tested.{certified_tested, certified_of_test, held_for, held_up_to, none_held, not_held_for, some_held}
 use Rattle.bank_books.specs.WorldLists.{WorldLists}
-use Rattle.bank_meaning.specs.PolicyRules.{Grounds, first_of_policy, grounds, is_identified, is_in_limit, is_released, leave_by_policy, leave_by_triples, leave_of, leave_sought, unless_denied}
+use Rattle.bank_meaning.specs.PolicyRules.{Grounds, first_of_policy, grounds, is_identified, is_in_limit, is_released, leave_by_policy, authorization_by_triples, leave_of, leave_sought, unless_denied}
 use Rattle.bank_meaning.specs.Meaning.{by_books}
 use Rattle.bank_meaning.specs.Executions.{books_meaning, execution_verdict}
-use Rattle.bank_meaning.specs.declared.leave.Leave.{Leave}
-use Rattle.bank_meaning.specs.declared.leave.Leave.TheVariants as leave
+use Rattle.bank_meaning.specs.declared.leave.Authorization.{Authorization}
+use Rattle.bank_meaning.specs.declared.leave.Authorization.TheVariants as leave
 use Rattle.bank_meaning.specs.declared.execution.Execution.{Execution}
 
 not_true : (b : Bool) → (b ≡ true → ⊥) → b ≡ false
@@ -24,36 +24,36 @@ not_true true none = absurd (none refl)
 
 pub certified_same : (rows : List CertifiedSet) (items : List Cdi) (r : Bool) → (IsTrue r → IsCertified rows items) × (IsCertified rows items → IsTrue r) → r ≡ is_certified rows items
 certified_same rows items true says = sym (certified_tested rows items (says.0 refl))
-certified_same rows items false says = sym (not_true (is_certified rows items) (λ is. false≢true (says.1 (certified_told rows items is))))
+certified_same rows items false says = sym (not_true (is_certified rows items) (λ is. false≢true (says.1 (certified_of_test rows items is))))
 
 -- ---- by the best limit of a user's triples
 
-abbrev by_tests : Bool → Bool → ℕ → Result Leave Rule
+abbrev by_tests : Bool → Bool → ℕ → Result Authorization Rule
 by_tests held enough release =
     if not held then Err rule.NoTriple else (if enough then Ok leave.Triple else (if release == 0 then Err rule.Limit else Ok (leave.Release release)))
 
-pub none_holds : (held : List HeldTriple) (items : List Cdi) (amount release : ℕ) → IsBestLimit held items None → Err rule.NoTriple ≡ leave_by_triples held items amount release
+pub none_holds : (held : List HeldTriple) (items : List Cdi) (amount release : ℕ) → IsBestLimit held items None → Err rule.NoTriple ≡ authorization_by_triples held items amount release
 none_holds held items amount release best = sym (ap (λ b. by_tests b (is_held_for held items amount) release) (none_held held items best))
 
-pub one_reaches : (held : List HeldTriple) (items : List Cdi) (limit amount release : ℕ) → IsBestLimit held items (Some limit) → amount ≤ limit → Ok leave.Triple ≡ leave_by_triples held items amount release
+pub one_reaches : (held : List HeldTriple) (items : List Cdi) (limit amount release : ℕ) → IsBestLimit held items (Some limit) → amount ≤ limit → Ok leave.Triple ≡ authorization_by_triples held items amount release
 one_reaches held items limit amount release best enough =
     sym (ap (λ b. by_tests b (is_held_for held items amount) release) (some_held held items limit best)
     ∙ ap (λ b. by_tests true b release) (held_for held items limit amount best enough))
 
 -- where none reaches the amount, it is asked whether a release is named
 none_reaches : (held : List HeldTriple) (items : List Cdi) (limit amount release : ℕ) → IsBestLimit held items (Some limit) → limit < amount
-    → by_tests true false release ≡ leave_by_triples held items amount release
+    → by_tests true false release ≡ authorization_by_triples held items amount release
 none_reaches held items limit amount release best less =
     sym (ap (λ b. by_tests b (is_held_for held items amount) release) (some_held held items limit best)
     ∙ ap (λ b. by_tests true b release) (not_held_for held items limit amount best less))
 
 pub none_named : (held : List HeldTriple) (items : List Cdi) (limit amount release : ℕ) → IsBestLimit held items (Some limit) → limit < amount → release ≡ 0
-    → Err rule.Limit ≡ leave_by_triples held items amount release
+    → Err rule.Limit ≡ authorization_by_triples held items amount release
 none_named held items limit amount release best less none =
     sym (ap (λ (b : Bool). if b then Err rule.Limit else Ok (leave.Release release)) (eq-eqb release 0 none)) ∙ none_reaches held items limit amount release best less
 
 pub one_named : (held : List HeldTriple) (items : List Cdi) (limit amount release : ℕ) → IsBestLimit held items (Some limit) → limit < amount → release ≢ 0
-    → Ok (leave.Release release) ≡ leave_by_triples held items amount release
+    → Ok (leave.Release release) ≡ authorization_by_triples held items amount release
 one_named held items limit amount release best less some =
     sym (ap (λ (b : Bool). if b then Err rule.Limit else Ok (leave.Release release)) (ne_eqb release 0 some)) ∙ none_reaches held items limit amount release best less
 
@@ -71,7 +71,7 @@ none_held_for held items amount best = not_true (is_held_for held items amount) 
 
 -- ---- the authorization by the policy, by its parts
 
-abbrev by_five : Bool → Bool → Bool → Bool → Bool → Bool → ℕ → Result Leave Rule
+abbrev by_five : Bool → Bool → Bool → Bool → Bool → Bool → ℕ → Result Authorization Rule
 by_five known certified held enough none_named counts release =
     unless_denied
     (cond (not known) (Some rule.Identity)
@@ -81,12 +81,12 @@ by_five known certified held enough none_named counts release =
     (if enough then leave.Triple else leave.Release release)
 
 -- the authorization that is sought, once it is known whether the release is valid
-abbrev pub if_counts : Bool → Result Leave Rule → Result Leave Rule
+abbrev pub if_counts : Bool → Result Authorization Rule → Result Authorization Rule
 if_counts counts (Err rule) = Err rule
 if_counts counts (Ok leave.Triple) = Ok leave.Triple
 if_counts counts (Ok (leave.Release number)) = if counts then Ok (leave.Release number) else Err rule.Release
 
-abbrev by_four : Bool → Bool → Bool → Bool → Bool → ℕ → Result Leave Rule
+abbrev by_four : Bool → Bool → Bool → Bool → Bool → ℕ → Result Authorization Rule
 by_four known certified held enough none_named release =
     if not known then Err rule.Identity
     else (if not certified then Err rule.NotCertified
@@ -155,7 +155,7 @@ sought_is_named g number is =
 -- ---- the authorization, and the first rule
 
 -- an authorization that is given is that of the grounds, and no rule of the policy denies
-pub leave_given : (g : Grounds) (l : Leave) → leave_by_policy g ≡ Ok l → (first_of_policy g ≡ None) × (leave_of g ≡ l)
+pub leave_given : (g : Grounds) (l : Authorization) → leave_by_policy g ≡ Ok l → (first_of_policy g ≡ None) × (leave_of g ≡ l)
 leave_given g l is = go (first_of_policy g) refl is
   where
     go : (o : Option Rule) → first_of_policy g ≡ o → unless_denied o (leave_of g) ≡ Ok l → (first_of_policy g ≡ None) × (leave_of g ≡ l)

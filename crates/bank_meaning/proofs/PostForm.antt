@@ -1,6 +1,7 @@
 -- The laws of a post.
-use Rattle.bank_meaning.specs.AskedRows.{entry_says}
-use Rattle.bank_meaning.proofs.AskedRows.{is_home, numbered}
+use Rattle.bank_meaning.proofs.RepliedEntries.{post_replied}
+use Rattle.bank_meaning.specs.AskedRows.{entry_says, line_says}
+use Rattle.bank_meaning.proofs.AskedRows.{account_found, is_home, numbered, placed_next}
 use Rattle.bank_books.specs.declared.rows.Branch.{Branch}
 use Rattle.bank_books.specs.declared.rows.Entry.{Entry}
 use Rattle.bank_books.specs.Books.{Books}
@@ -84,8 +85,10 @@ post_asked by w post judged =
       branch_is = judged.branch.1;
     } in
     let e : Entry = post_entry (account_record_of w judged.floor.row) (ledger_of (branch_record_of w branch)) post by in
+    let l = post_line (cash_book_of (branch_record_of w branch)) post by in
+    let of = account_found w post.account judged.floor.row judged.floor.there in
     subst (AreWritten (op.Post post) by w) (sym (allowed.changes_are w post there by)) (record {
-      asked = (numbered w (entry_says e) 1 branch.branch post.branch home.key, refl);
+      asked = (e, l, refl, numbered w (entry_says e) 1 branch.branch post.branch judged.floor.row.account post.account home.key of, placed_next w (line_says l) 1 branch.branch post.branch home.key);
       bear = ((refl, refl, home.day), ((refl, refl, home.day), tt));
       days = tt;
     })
@@ -157,4 +160,5 @@ post_is_form post = record {
   };
   cash = λ is by w branch place. post_lines w post by branch place;
   asked = λ by w judged. post_asked by w post judged;
+  replied = λ by w checks proper judged step. post_replied by w post judged step;
 }

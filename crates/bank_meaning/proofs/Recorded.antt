@@ -22,26 +22,29 @@ use Rattle.bank_meaning.specs.AskedRows.{Bears}
 use Rattle.bank_meaning.specs.Executions.{books_meaning, execution_meaning, signature_of}
 use Rattle.bank_meaning.specs.Form.{changed_by}
 use Rattle.bank_meaning.specs.Laws.{InLimitOrReleased}
-use Rattle.bank_meaning.specs.Operations.{form_of}
+use Rattle.bank_meaning.specs.Operations.{form_of, moves_of}
 use Rattle.bank_meaning.specs.PolicyRules.{asker, grounds, is_in_limit, leave_of, used_by}
 use Rattle.bank_meaning.specs.Recorded.{IsIn, IsTaken, IsUsedUp, RowsAreAsked, RowsSayWhatWasAsked}
-use Rattle.bank_meaning.specs.Requests.{effect, executes, first, repeated}
+use Rattle.bank_meaning.specs.Requests.{effect, executes, first, repeated, reply_text}
 use Rattle.bank_meaning.specs.Run.{if_allowed, unless_repeated}
 use Rattle.bank_meaning.specs.Slips.{slip_named, slip_of, taken_by}
 use Rattle.bank_meaning.specs.Sums.{IsProper, PassesChecks}
 use Rattle.bank_meaning.specs.declared.execution.Execution.{Execution}
-use Rattle.bank_meaning.specs.declared.leave.Leave.TheVariants as leave
+use Rattle.bank_meaning.specs.declared.leave.Authorization.TheVariants as leave
 use Rattle.bank_meaning.proofs.AddedRows.{adds_no_more, each_is_new, each_of}
 use Rattle.bank_meaning.proofs.AllowedRequest.{allowed_by_books, allowed_user}
 use Rattle.bank_meaning.proofs.BookChanges.{all_applied, policy_kept}
 use Rattle.bank_meaning.proofs.BooksJudged.{books_are_judged}
 use Rattle.bank_meaning.proofs.Forms.{law_of}
+use Rattle.bank_meaning.proofs.RepliedRows.{still_replied}
+use Rattle.bank_meaning.proofs.Steps.{IsStep}
 use Rattle.bank_meaning.proofs.JudgedPolicy.{allowed_exactly_when_held, leave_in_limit}
 
 -- ---- by the books alone
 
-by_books : (w : WorldLists) (x : Execution) → HasDistinctKeys (books_meaning w x).effect → first w (executes x) ≡ None → RowsAreAsked w (books_meaning w x).effect x
-by_books w x keys is =
+by_books : (w : WorldLists) (x : Execution) → PassesChecks w → IsProper (executes x) → IsStep w (books_meaning w x).effect (moves_of x.op) → first w (executes x) ≡ None → RowsAreAsked w (books_meaning w x).effect x
+by_books w x checks proper step is =
+    let keys = step.checks.books.in_range.keys in
     let by = signature_of x in
     let law = law_of x.op in
     let changes = changed_by (form_of x.op) by w in
@@ -66,6 +69,7 @@ by_books w x keys is =
       releases = λ r there. elim (all.releases r there) [ inl was ↦ inl was | inr new ↦ inr (inr new) ];
       slips = λ s there. inl (subst (λ rows. Contains rows s) all.slips there);
       policy = policy;
+      replied = subst (λ after. (form_of x.op).IsReplied by w after changes (books_meaning w x).reply) effect (law.replied by w checks proper.asked (books_are_judged w x is) step);
     })
 
 -- ---- with the release that lets it be
@@ -104,6 +108,7 @@ used w after x checks named asked = record {
       (λ r there at. of_key r (asked.releases r there) (key_parts r.user r.number (asker x.who) x.who.release (in_range after checks r there) named (eqb-true _ _ at))) (λ r there other. asked.releases r there);
   slips = asked.slips;
   policy = asked.policy;
+  replied = still_replied after (used_by (leave.Release x.who.release) (asker x.who) after).releases after.slips asked.rows (reply_text w (executes x)) x.op (signature_of x) w asked.replied;
 }
   where
     of_key : (r : Release) → Contains w.releases r ⊎ (IsUsedUp w x r ⊎ Contains asked.rows (write.Release r)) → (r.user ≡ asker x.who) × (r.number ≡ x.who.release)
@@ -165,6 +170,7 @@ taken w after x asked = go (slip_named x == 0) refl
       releases = asked.releases;
       slips = new some;
       policy = asked.policy;
+      replied = still_replied after after.releases (written (write.Slip row) after).slips asked.rows (reply_text w (executes x)) x.op (signature_of x) w asked.replied;
     }
 
 -- ---- the law
@@ -173,7 +179,7 @@ allowed : (w : WorldLists) (x : Execution) → PassesChecks w → IsProper (exec
 allowed w x checks proper is =
     let after = (books_meaning w x).effect in
     let step = (law_of x.op).steps (signature_of x) w checks proper.asked (record { user = allowed_user w x is; moment = proper.moment }) (allowed_by_books w x is) in
-    taken w (used_by (leave_of (grounds w x)) (asker x.who) after) x (left w after x checks step.checks is (by_books w x step.checks.books.in_range.keys is))
+    taken w (used_by (leave_of (grounds w x)) (asker x.who) after) x (left w after x checks step.checks is (by_books w x checks proper step is))
 
 pub rows_say_what_was_asked : RowsSayWhatWasAsked
 rows_say_what_was_asked w x checks proper = record {

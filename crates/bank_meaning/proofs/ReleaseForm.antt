@@ -1,4 +1,8 @@
 -- The laws of a release that is given.
+use Rattle.std.proofs.lemmas.Bool.{eqb-true}
+use Rattle.keyed_rows.proofs.Rows.{find-found}
+use Rattle.bank_policy.specs.PolicyKeys.{user_key}
+use Rattle.bank_meaning.proofs.RepliedRows.{release_replied}
 use Rattle.bank_books.specs.Balances.{account_balance, branch_balance, entry_count, teller_balance, branch_row}
 use Rattle.bank_books.specs.Books.{Books}
 use Rattle.bank_books.specs.Cash.{cash_entry_total}
@@ -9,7 +13,7 @@ use Rattle.bank_meaning.proofs.AskedRows.{is_home}
 use Rattle.bank_books.specs.declared.rows.Branch.{Branch}
 use Rattle.bank_books.specs.Records.{branch_record_of}
 use Rattle.bank_policy.specs.declared.rows.User.{User}
-use Rattle.std.proofs.Common.{ap₂}
+use Rattle.std.proofs.Common.{ap₂, ◌+◌}
 use Rattle.bank_books.specs.declared.row_write.RowWrite.TheVariants as write
 use Rattle.bank_books.specs.declared.rows.Release.{Release as ReleaseRow}
 use Rattle.bank_books.specs.declared.signature.Signature.{Signature}
@@ -83,8 +87,13 @@ release_asked by w form judged =
     let home = is_home w (branch_of form.operation) judged.branch.0 judged.branch.1 in
     let changes = ap₂ (λ (user : Option User) (branch : Option Branch).
     release_changes (record { given = option_map (λ u. u.releases) (option_map (user_record_of w) user); today = option_map (λ b. b.row.day) (option_map (branch_record_of w) branch) }) form by) judged.there judged.branch.1 in
-    subst (AreWritten (op.Release form) by w) (sym changes)
-    (record { asked = record { user = refl; branch = refl; operation = refl; unused = refl }; bear = ((refl, judged.other, home.day), tt); days = tt })
+    let row : ReleaseRow = given_release (user_record_of w judged.row).releases judged.branch.0.day form by in
+    let number = ap (λ user. release_count user w.releases + 1) (eqb-true judged.row.user form.beneficiary (find-found (λ u. user_key u == form.beneficiary) w.policy.users judged.row judged.there).1) in
+    subst (AreWritten (op.Release form) by w) (sym changes) (record {
+      asked = (row, refl, record { user = refl; number = number; branch = refl; operation = refl; unused = refl });
+      bear = ((refl, judged.other, home.day), tt);
+      days = tt;
+    })
 
 release_judged : (w : WorldLists) (who : Who) (moment : ℕ) (form : Release) → NoneDenies w who moment (op.Release form) → IsReleaseJudged w (asker who) form
 release_judged w who moment form none =
@@ -132,4 +141,5 @@ release_is_form form = record {
   moves = none_within _;
   cash = λ is by w branch place. release_lines w form by branch place;
   asked = λ by w judged. release_asked by w form judged;
+  replied = λ by w checks proper judged step. release_replied by w form judged;
 }

@@ -15,7 +15,7 @@ use Rattle.bank_meaning.specs.Operations.{form_of, meaning_of}
 use Rattle.bank_meaning.specs.PolicyRules.{grounds, is_identified}
 use Rattle.bank_meaning.specs.Repeats.{BearsSlipOf, HasActedOnce, IsAlone, IsRetried, IsSentAgain, MayBeLeft, RetriesActOnce}
 use Rattle.bank_meaning.specs.Requests.{denies, effect, executes, first, repeated, reply_text}
-use Rattle.bank_meaning.specs.Run.{if_allowed, is_accepted, reply, step, told, told_again, unless_repeated}
+use Rattle.bank_meaning.specs.Run.{if_allowed, is_accepted, reply, step, stated, repeated_reply, unless_repeated}
 use Rattle.bank_meaning.specs.Slips.{kept_reply, slip_grounds, slip_named}
 use Rattle.bank_meaning.specs.declared.execution.Execution.{Execution}
 use Rattle.bank_meaning.proofs.Forms.{law_of}
@@ -34,7 +34,7 @@ in_json o by w n named = go (takes_slip (procedure_of o)) refl named
 module _ (w : WorldLists) (x : Execution) (named : slip_named x ≢ 0) where
   -- where it left the World as it was, it is as if it were not sent
   left_alone : step w (executes x) ≡ w → IsRetried w x (step w (executes x))
-  left_alone stays = record { world = ap (λ z. step z (executes x)) stays; told = ap (λ z. reply z (executes x)) stays }
+  left_alone stays = record { world = ap (λ z. step z (executes x)) stays; stated = ap (λ z. reply z (executes x)) stays }
 
   -- where it was accepted, its slip was taken, and who asks is known as before
   module _ (fresh : repeated w (executes x) ≡ None) (allowed : first w (executes x) ≡ None) where
@@ -54,17 +54,17 @@ module _ (w : WorldLists) (x : Execution) (named : slip_named x ≢ 0) where
     accepted : is_accepted w (record { request = executes x; mark = None }) ≡ true
     accepted = ap (λ kept. is_none kept && is_none (first w (executes x))) fresh ∙ ap (λ f. is_none f) allowed
 
-    told_first : reply w (executes x) ≡ Ok (reply_text w (executes x))
-    told_first =
-        ap (λ kept. told_again kept (told (first w (executes x)) (reply_text w (executes x)))) fresh
-        ∙ ap (λ f. told f (reply_text w (executes x))) allowed
+    stated_first : reply w (executes x) ≡ Ok (reply_text w (executes x))
+    stated_first =
+        ap (λ kept. repeated_reply kept (stated (first w (executes x)) (reply_text w (executes x)))) fresh
+        ∙ ap (λ f. stated f (reply_text w (executes x))) allowed
 
     acted : IsRetried w x (step w (executes x))
     acted =
         let kept = replies_are_kept w x [] named accepted in
         record {
           world = kept.left x bears refl;
-          told = kept.told x bears refl ∙ ap (λ text. Ok text) (in_json x.op (signature_of x) w x.who.slip named) ∙ sym told_first;
+          stated = kept.stated x bears refl ∙ ap (λ text. Ok text) (in_json x.op (signature_of x) w x.who.slip named) ∙ sym stated_first;
         }
 
   retried : (kept : Option (List ℕ)) (f : Option Rule) → repeated w (executes x) ≡ kept → first w (executes x) ≡ f → IsRetried w x (step w (executes x))
@@ -75,10 +75,10 @@ module _ (w : WorldLists) (x : Execution) (named : slip_named x ≢ 0) where
   retried (Some bytes) f again is = left_alone (ap (λ kept. unless_repeated kept (if_allowed (first w (executes x)) (effect w (executes x)) w) w) again)
 
 as_it_was : (w : WorldLists) (x : Execution) (left : WorldLists) → slip_named x ≢ 0 → MayBeLeft w x left → IsRetried w x left
-as_it_was w x left named (inl before) = record { world = ap (λ z. step z (executes x)) before; told = ap (λ z. reply z (executes x)) before }
+as_it_was w x left named (inl before) = record { world = ap (λ z. step z (executes x)) before; stated = ap (λ z. reply z (executes x)) before }
 as_it_was w x left named (inr after) =
     let there = retried w x named (repeated w (executes x)) (first w (executes x)) refl refl in
-    record { world = ap (λ z. step z (executes x)) after ∙ there.world; told = ap (λ z. reply z (executes x)) after ∙ there.told }
+    record { world = ap (λ z. step z (executes x)) after ∙ there.world; stated = ap (λ z. reply z (executes x)) after ∙ there.stated }
 
 -- ---- in another session, at another moment
 
@@ -90,7 +90,7 @@ module _ (v : WorldLists) (y : Execution) where
   known_again false bytes is kept = absurd cc
 
   known_answered : (kept : Option (List ℕ)) (f : Option Rule) (text : ReplyText) → repeated v (executes y) ≡ kept → first v (executes y) ≡ f
-      → told_again kept (told f (reply_text v (executes y))) ≡ Ok text → denies rule.Identity v (executes y) ≡ false
+      → repeated_reply kept (stated f (reply_text v (executes y))) ≡ Ok text → denies rule.Identity v (executes y) ≡ false
   known_answered None None text fresh allowed is = none_denies v (executes y) rule.Identity allowed
   known_answered None (Some r) text fresh denied is = absurd cc
   known_answered (Some bytes) f text again judged is = known_again (is_identified (grounds v y).standing (grounds v y).session) bytes refl again
@@ -98,7 +98,7 @@ module _ (v : WorldLists) (y : Execution) where
 module _ (w : WorldLists) (x y : Execution) (text : ReplyText) (named : slip_named x ≢ 0) (sent : IsSentAgain x y) where
   -- of a World that the first left alone, this is what it is of the one before
   alone : (left : WorldLists) → left ≡ w → reply left (executes y) ≡ Ok text → IsAlone w y (step left (executes y)) text
-  alone left same is = record { world = ap (λ z. step z (executes y)) same; told = ap (λ z. reply z (executes y)) (sym same) ∙ is }
+  alone left same is = record { world = ap (λ z. step z (executes y)) same; stated = ap (λ z. reply z (executes y)) (sym same) ∙ is }
 
   -- where the first was accepted, this is its repeat
   repeats_it : repeated w (executes x) ≡ None → first w (executes x) ≡ None → reply (step w (executes x)) (executes y) ≡ Ok text
@@ -109,7 +109,7 @@ module _ (w : WorldLists) (x y : Execution) (text : ReplyText) (named : slip_nam
       let kept = replies_are_kept w x [] named (accepted w x named fresh allowed) in
       record {
         world = kept.left y bears sent.operation;
-        told = told_first w x named fresh allowed ∙ sym (ap (λ t. Ok t) (in_json x.op (signature_of x) w x.who.slip named)) ∙ sym (kept.told y bears sent.operation) ∙ is;
+        stated = stated_first w x named fresh allowed ∙ sym (ap (λ t. Ok t) (in_json x.op (signature_of x) w x.who.slip named)) ∙ sym (kept.stated y bears sent.operation) ∙ is;
       }
 
   sent_again : (kept : Option (List ℕ)) (f : Option Rule) → repeated w (executes x) ≡ kept → first w (executes x) ≡ f → reply (step w (executes x)) (executes y) ≡ Ok text

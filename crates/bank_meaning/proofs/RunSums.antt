@@ -55,7 +55,7 @@ checks_along w (m ∷ ms) (suc n) checks proper =
 
 -- what the first of a list gains, and the others
 gained_in_front : (before mid after first rest : ℤ) → mid ≡ before +ℤ first → after ≡ mid +ℤ rest → after ≡ before +ℤ (first +ℤ rest)
-gained_in_front before mid after first rest here behind = omega (arith, ints)
+gained_in_front before mid after first rest here following = omega (arith, ints)
 
 share_if : (share : Moves → ℤ) (b : Bool) (m : Moves) → share moves_nothing ≡ pos 0 → share (if b then m else moves_nothing) ≡ (if b then share m else pos 0)
 share_if share true m none = refl
@@ -82,7 +82,7 @@ moved_by_all number share none each w (m ∷ ms) checks proper =
     ∙ ap (λ z. number w +ℤ z) (total_in_front (λ r. share (moves r)) (is_accepted w m) m.request (accepted mid ms))
 
 entered_in_front : (before mid after first rest : ℕ) → mid ≡ before + first → after ≡ mid + rest → after ≡ before + (first + rest)
-entered_in_front before mid after first rest here behind = omega arith
+entered_in_front before mid after first rest here following = omega arith
 
 sum_in_front : {X : Type 0} (f : X → ℕ) (b : Bool) (x : X) (xs : List X) → (if b then f x else 0) + sum_by f xs ≡ sum_by f (if b then x ∷ xs else xs)
 sum_in_front f true x xs = sym (sum_by-cons f x xs)

@@ -20,7 +20,7 @@ use Rattle.bank_meaning.specs.NamedRelease.{is_same_operation}
 use Rattle.bank_meaning.specs.Once.{asked_out, is_out, is_taken_out, marked_without_slip, without_slip, without_slips}
 use Rattle.bank_meaning.specs.PolicyRules.{asker, grounds, is_identified}
 use Rattle.bank_meaning.specs.Requests.{denies, effect, executes, first, repeated, reply_text, rules}
-use Rattle.bank_meaning.specs.Run.{Marked, after_request, if_allowed, is_accepted, reply, step, told, told_again, unless_repeated}
+use Rattle.bank_meaning.specs.Run.{Marked, after_request, if_allowed, is_accepted, reply, step, stated, repeated_reply, unless_repeated}
 use Rattle.bank_meaning.specs.Slips.{SlipGrounds, has_no_room, is_of_another, kept_reply, slip_grounds, slip_named, taken_by}
 use Rattle.bank_meaning.specs.declared.execution.Execution.{Execution}
 use Rattle.bank_meaning.specs.declared.request.Asked.{Asked}
@@ -150,10 +150,10 @@ pub same_reply : (w : WorldLists) (q : Request) → IsSameStep w q → reply w q
 same_reply w q s =
     let v = without_slips w in
     let p = without_slip q in
-    ap (λ r. told_again r (told (first w q) (reply_text w q))) s.made
-    ∙ ap (λ t. told (first w q) t) s.text
-    ∙ ap (λ f. told f (reply_text v p)) s.first
-    ∙ sym (ap (λ r. told_again r (told (first v p) (reply_text v p))) s.made_there)
+    ap (λ r. repeated_reply r (stated (first w q) (reply_text w q))) s.made
+    ∙ ap (λ t. stated (first w q) t) s.text
+    ∙ ap (λ f. stated f (reply_text v p)) s.first
+    ∙ sym (ap (λ r. repeated_reply r (stated (first v p) (reply_text v p))) s.made_there)
 
 pub same_acceptance : (w : WorldLists) (m : Marked) → IsSameStep w m.request → is_accepted w m ≡ is_accepted (without_slips w) (marked_without_slip m)
 same_acceptance w m s =

@@ -19,8 +19,8 @@ use Rattle.bank_meaning.specs.Form.{changed_by}
 use Rattle.bank_meaning.specs.Operations.{form_of, meaning_of}
 use Rattle.bank_meaning.specs.PolicyRules.{asker, grounds, leave_of, policy_denies, used_by}
 use Rattle.bank_meaning.specs.declared.execution.Execution.{Execution}
-use Rattle.bank_meaning.specs.declared.leave.Leave.{Leave}
-use Rattle.bank_meaning.specs.declared.leave.Leave.TheVariants as leave
+use Rattle.bank_meaning.specs.declared.leave.Authorization.{Authorization}
+use Rattle.bank_meaning.specs.declared.leave.Authorization.TheVariants as leave
 use Rattle.bank_meaning.proofs.BookChanges.{slips_aside}
 use Rattle.bank_meaning.proofs.Forms.{law_of}
 
@@ -42,7 +42,7 @@ by_form s w o by =
     })
 
 -- a release that is used up is no slip
-used_beside : (s : List SlipRow) (l : Leave) (user : ℕ) (after other : WorldLists) → other ≡ with_slips s after → used_by l user other ≡ with_slips s (used_by l user after)
+used_beside : (s : List SlipRow) (l : Authorization) (user : ℕ) (after other : WorldLists) → other ≡ with_slips s after → used_by l user other ≡ with_slips s (used_by l user after)
 used_beside s leave.Triple user after other same = same
 used_beside s (leave.Release number) user after other same = ap (written (write.Used (record { user = user; number = number }))) same
 

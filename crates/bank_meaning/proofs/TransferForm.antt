@@ -1,6 +1,7 @@
 -- The laws of a transfer.
+use Rattle.bank_meaning.proofs.RepliedEntries.{transfer_replied}
 use Rattle.bank_meaning.specs.AskedRows.{entry_says}
-use Rattle.bank_meaning.proofs.AskedRows.{is_home, partnered}
+use Rattle.bank_meaning.proofs.AskedRows.{account_found, is_home, partnered}
 use Rattle.bank_books.specs.Books.{Books}
 use Rattle.bank_books.specs.Effects.{applied, written}
 use Rattle.bank_books.specs.Records.{account_record, account_record_of, branch_record, branch_record_of, teller_record}
@@ -86,7 +87,13 @@ transfer_asked by w transfer judged =
     let first : Entry = first_leg (account_record_of w judged.source.row) ledger transfer by in
     let second : Entry = second_leg (account_record_of w judged.target.row) ledger transfer by in
     subst (AreWritten (op.Transfer transfer) by w) (sym (transfer_allowed.changes_are w transfer there by)) (record {
-      asked = (partnered w (entry_says first) 1 2 branch.branch transfer.branch home.key, partnered w (entry_says second) 2 1 branch.branch transfer.branch home.key);
+      asked = (
+        first,
+        second,
+        refl,
+        partnered w (entry_says first) 1 2 branch.branch transfer.branch judged.source.row.account transfer.source home.key (account_found w transfer.source judged.source.row judged.source.there),
+        partnered w (entry_says second) 2 1 branch.branch transfer.branch judged.target.row.account transfer.target home.key (account_found w transfer.target judged.target.row judged.target.there),
+      );
       bear = ((refl, refl, home.day), ((refl, refl, home.day), tt));
       days = tt;
     })
@@ -156,4 +163,5 @@ transfer_is_form form = record {
   };
   cash = λ is by w branch place. transfer_lines w form by branch place;
   asked = λ by w judged. transfer_asked by w form judged;
+  replied = λ by w checks proper judged step. transfer_replied by w form proper judged step;
 }

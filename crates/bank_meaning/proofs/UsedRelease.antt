@@ -19,15 +19,15 @@ use Rattle.bank_meaning.specs.Laws.{IsUsedOnce, Released, ReleasesAreUsedOnce}
 use Rattle.bank_meaning.specs.PolicyRules.{asker, used_by}
 use Rattle.bank_meaning.specs.Moves.{Moves}
 use Rattle.bank_meaning.specs.declared.execution.Execution.{Execution}
-use Rattle.bank_meaning.specs.declared.leave.Leave.{Leave}
-use Rattle.bank_meaning.specs.declared.leave.Leave.TheVariants as leave
+use Rattle.bank_meaning.specs.declared.leave.Authorization.{Authorization}
+use Rattle.bank_meaning.specs.declared.leave.Authorization.TheVariants as leave
 use Rattle.bank_meaning.proofs.JudgedPolicy.{leave_in_limit, leave_past_limit}
 use Rattle.bank_meaning.proofs.KeptOrder.{in_order_written}
 use Rattle.bank_meaning.proofs.Steps.{IsStep}
 
 -- ---- the step
 
-pub used_step : (w after : WorldLists) (m : Moves) (l : Leave) (user : ℕ) → IsStep w after m → IsStep w (used_by l user after) m
+pub used_step : (w after : WorldLists) (m : Moves) (l : Authorization) (user : ℕ) → IsStep w after m → IsStep w (used_by l user after) m
 used_step w after m leave.Triple user step = step
 used_step w after m (leave.Release number) user step = record {
   checks = record {

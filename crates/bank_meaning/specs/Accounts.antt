@@ -26,6 +26,7 @@ accounts_form form = record {
   moves = moves_nothing;
   IsJudged = λ w user. ⊤;
   AreAsked = λ w rows. rows ≡ [];
+  IsReplied = λ by before after rows text. text ≡ plain (report_text before (accounts_of form by) form.count);
 }
 
 abbrev pub accounts_meaning : Accounts → Signature → WorldLists → Meaning

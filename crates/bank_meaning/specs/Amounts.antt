@@ -14,7 +14,7 @@ use Rattle.bank_meaning.specs.Run.{step}
 use Rattle.bank_meaning.specs.Sums.{IsProper, PassesChecks}
 use Rattle.bank_meaning.specs.declared.execution.Execution.{Execution}
 
--- they differ by so many cents at most
+-- they differ by at most n cents
 abbrev pub DifferAtMost : ℕ → ℤ → ℤ → Type 0
 DifferAtMost most before after = unsigned_abs (after +ℤ neg_ℤ before) ≤ most
 

@@ -21,10 +21,11 @@ Bears w user moment (write.Proof p) = today w p.branch ≡ Some p.day
 Bears w user moment (write.Release r) = (r.giver ≡ user) × (r.user ≢ user) × (today w r.branch ≡ Some r.day)
 Bears w user moment _ = ⊤
 
--- what an entry says of what was asked, and its number in the history of its branch
+-- what an entry says of what was asked, and its numbers: in the history of its branch, and in that of its account
 pub record EntrySays : Type 0 where
   pub branch : ℕ
   pub number : ℕ
+  pub turn : ℕ
   pub teller : ℕ
   pub account : ℕ
   pub delta : ℤ
@@ -33,14 +34,15 @@ pub record EntrySays : Type 0 where
   pub undoes : ℕ
 
 abbrev pub entry_says : Entry → EntrySays
-entry_says e = record { branch = e.branch; number = e.number; teller = e.teller; account = e.account; delta = e.delta; form = e.form; partner = e.partner; undoes = e.undoes }
+entry_says e = record { branch = e.branch; number = e.number; turn = e.turn; teller = e.teller; account = e.account; delta = e.delta; form = e.form; partner = e.partner; undoes = e.undoes }
 
--- and a cash line
+-- and a cash line, with its number in the cash book of its branch
 pub record LineSays : Type 0 where
   pub branch : ℕ
+  pub number : ℕ
   pub place : ℕ
   pub amount : ℤ
   pub form : LineForm
 
 abbrev pub line_says : CashLine → LineSays
-line_says l = record { branch = l.branch; place = l.place; amount = l.amount; form = l.form }
+line_says l = record { branch = l.branch; number = l.number; place = l.place; amount = l.amount; form = l.form }

@@ -6,6 +6,7 @@ use Rattle.serde_json.specs.Data.{Data, object, member, no_members}
 use Rattle.money.specs.Range.{is_cents}
 use Rattle.bank_terms.specs.declared.rule.Rule.{Rule}
 use Rattle.bank_terms.specs.declared.rule.Rule.TheVariants as rule
+use Rattle.bank_books.specs.Balances.{account_balance}
 use Rattle.bank_books.specs.Records.{account_record}
 use Rattle.bank_books.specs.WorldLists.{WorldLists}
 use Rattle.bank_books.specs.declared.records.AccountRecord.{AccountRecord}
@@ -46,6 +47,7 @@ balance_form form = record {
   moves = moves_nothing;
   IsJudged = λ w user. HasAccount w form.account;
   AreAsked = λ w rows. rows ≡ [];
+  IsReplied = λ by before after rows text. text ≡ json (balance_text (account_balance after form.account));
 }
 
 abbrev pub balance_meaning : Balance → WorldLists → Meaning

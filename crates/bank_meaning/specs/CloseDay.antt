@@ -21,7 +21,7 @@ use Rattle.drawers.specs.declared.close_day.ClosingRows.{ClosingRows}
 use Rattle.bank_meaning.specs.Form.{Form}
 use Rattle.bank_meaning.specs.Moves.{moves_nothing}
 use Rattle.bank_meaning.specs.Denial.{cents, natural}
-use Rattle.bank_meaning.specs.Meaning.{Meaning, json}
+use Rattle.bank_meaning.specs.Meaning.{Meaning, ReplyText, json}
 use Rattle.bank_books.specs.Cash.{holder_of}
 use Rattle.bank_books.specs.declared.rows.Teller.{Teller}
 use Rattle.bank_meaning.specs.JudgedRows.{HasBranch}
@@ -46,13 +46,19 @@ pub record IsProofOf (w : WorldLists) (form : CloseDay) (p : Proof) : Type 0 whe
 
 -- the proof of the day, and the branch on its next day
 abbrev pub AreCloseDayAsked : WorldLists → CloseDay → List RowWrite → Type 0
-AreCloseDayAsked w form (write.Proof p ∷ write.Day d ∷ []) = IsProofOf w form p × (d.branch ≡ form.branch) × (option_map (λ day. day + 1) (today w form.branch) ≡ Some d.day)
-AreCloseDayAsked w form _ = ⊥
+AreCloseDayAsked w form rows =
+    (p : Proof) × (day : ℕ) × (rows ≡ write.Proof p ∷ write.Day (record { branch = form.branch; day = day }) ∷ []) × IsProofOf w form p × (option_map (λ d. d + 1) (today w form.branch) ≡ Some day)
 
 -- nobody holds a drawer of the branch
 pub record IsCloseDayJudged (w : WorldLists) (form : CloseDay) : Type 0 where
   pub branch : HasBranch w form.branch
   pub drawers : (t : Teller) → Contains w.tellers t → t.branch ≡ form.branch → holder_of w.lines t.teller ≡ None
+
+-- what the proof that was added holds
+pub record IsCloseDayReplied (rows : List RowWrite) (text : ReplyText) : Type 0 where
+  pub proof : Proof
+  pub added : Contains rows (write.Proof proof)
+  pub says : text ≡ json (closed_text (record { balance = proof.balance; cash = proof.cash; closed = proof.day; entries = proof.entries }))
 
 -- all that it is
 abbrev pub close_day_form : CloseDay → Form
@@ -66,6 +72,7 @@ close_day_form form = record {
   moves = moves_nothing;
   IsJudged = λ w user. IsCloseDayJudged w form;
   AreAsked = λ w rows. AreCloseDayAsked w form rows;
+  IsReplied = λ by before after rows text. IsCloseDayReplied rows text;
 }
 
 abbrev pub close_day_meaning : CloseDay → WorldLists → Meaning

@@ -1,6 +1,7 @@
 -- A correction as an operation: its reply and its meaning. The rest of it is that of its plan.
 use Rattle.bank_meaning.specs.AskedRows.{EntrySays, entry_says, line_says}
-use Rattle.bank_books.specs.Balances.{entry_count}
+use Rattle.bank_books.specs.Balances.{entry_count, turn_count}
+use Rattle.bank_books.specs.Cash.{line_count}
 use Rattle.bank_books.specs.declared.row_write.RowWrite.{RowWrite}
 use Rattle.bank_books.specs.declared.row_write.RowWrite.TheVariants as write
 use Rattle.bank_books.specs.declared.rows.LineForm.TheVariants as line_form
@@ -19,12 +20,13 @@ use Rattle.postings.specs.Correct.{correct_changes, is_of_post, undoing}
 use Rattle.postings.specs.declared.correct.CorrectRows.{CorrectRows}
 use Rattle.bank_meaning.specs.Form.{Form, said_by}
 use Rattle.bank_meaning.specs.Moves.{Moves}
-use Rattle.bank_meaning.specs.Meaning.{Meaning, json}
-use Rattle.bank_meaning.specs.Post.{posted_text}
-use Rattle.bank_meaning.specs.Transfer.{transferred_text}
+use Rattle.bank_meaning.specs.Meaning.{Meaning, ReplyText, json}
+use Rattle.bank_meaning.specs.Post.{IsPostReplied, posted_text}
+use Rattle.bank_meaning.specs.Transfer.{IsTransferReplied, transferred_text}
 use Rattle.bank_books.specs.declared.rows.EntryForm.TheVariants as entry_form
 use Rattle.bank_books.specs.Balances.{branch_row}
 use Rattle.bank_books.specs.declared.rows.Branch.{Branch}
+use Rattle.bank_books.specs.declared.rows.CashLine.{CashLine}
 use Rattle.bank_books.specs.declared.rows.Entry.{Entry}
 use Rattle.bank_meaning.specs.JudgedRows.{KeepsFloor, HoldsDrawer, DrawerCovers}
 use Rattle.std.specs.Prelude.{neg_ℤ, ◌≡◌, ◌≢◌, Contains, Some}
@@ -73,10 +75,11 @@ pub record IsCorrectJudged (w : WorldLists) (user : ℕ) (correct : Correct) : T
   pub cash : correct.other ≡ 0 → DrawerCovers w correct.teller correct.branch (neg_ℤ correct.delta)
 
 -- an entry that undoes the one of this number
-abbrev pub undoing_says : Correct → ℕ → ℤ → ℕ → ℕ → ℕ → EntrySays
-undoing_says correct account delta number partner undoes = record {
+abbrev pub undoing_says : WorldLists → Correct → ℕ → ℤ → ℕ → ℕ → ℕ → EntrySays
+undoing_says w correct account delta number partner undoes = record {
   branch = correct.branch;
   number = number;
+  turn = turn_count account w.entries + 1;
   teller = correct.teller;
   account = account;
   delta = delta;
@@ -87,18 +90,31 @@ undoing_says correct account delta number partner undoes = record {
 
 -- An entry of this form is undone by minus its delta: a post with its cash, and the leg of a transfer with the other leg, by two that are each the other's partner.
 abbrev pub AreUndoing : WorldLists → Correct → Entry → EntryForm → List RowWrite → Type 0
-AreUndoing w correct named entry_form.Post (write.Entry e ∷ write.Line l ∷ []) =
-    (entry_says e ≡ undoing_says correct named.account (neg_ℤ named.delta) (entry_count correct.branch w.entries + 1) 0 correct.entry)
-    × (line_says l ≡ record { branch = correct.branch; place = correct.teller; amount = neg_ℤ named.delta; form = line_form.CashEntry })
-AreUndoing w correct named entry_form.TransferLeg (write.Entry first ∷ write.Entry second ∷ []) =
+AreUndoing w correct named entry_form.Post rows =
+    (e : Entry)
+    × (l : CashLine)
+    × (rows ≡ write.Entry e ∷ write.Line l ∷ [])
+    × (entry_says e ≡ undoing_says w correct named.account (neg_ℤ named.delta) (entry_count correct.branch w.entries + 1) 0 correct.entry)
+    × (line_says l ≡ record { branch = correct.branch; number = line_count correct.branch w.lines + 1; place = correct.teller; amount = neg_ℤ named.delta; form = line_form.CashEntry })
+AreUndoing w correct named entry_form.TransferLeg rows =
     let n = entry_count correct.branch w.entries in
-    (entry_says first ≡ undoing_says correct named.account (neg_ℤ named.delta) (n + 1) (n + 2) correct.entry)
-    × ((leg : Entry) × (entry w correct.branch named.partner ≡ Some leg) × (entry_says second ≡ undoing_says correct leg.account named.delta (n + 2) (n + 1) named.partner))
-AreUndoing w correct named _ _ = ⊥
+    (first : Entry)
+    × (second : Entry)
+    × (leg : Entry)
+    × (rows ≡ write.Entry first ∷ write.Entry second ∷ [])
+    × (entry_says first ≡ undoing_says w correct named.account (neg_ℤ named.delta) (n + 1) (n + 2) correct.entry)
+    × (entry w correct.branch named.partner ≡ Some leg)
+    × (entry_says second ≡ undoing_says w correct leg.account named.delta (n + 2) (n + 1) named.partner)
+AreUndoing w correct named entry_form.Correction rows = ⊥
 
 -- the entry that is named is undone
 abbrev pub AreCorrectAsked : WorldLists → Correct → List RowWrite → Type 0
 AreCorrectAsked w correct rows = (named : Entry) × (entry w correct.branch correct.entry ≡ Some named) × AreUndoing w correct named named.form rows
+
+-- that of a post as of a post, that of a transfer as of a transfer
+pub record IsCorrectReplied (after : WorldLists) (rows : List RowWrite) (correct : Correct) (text : ReplyText) : Type 0 where
+  pub of_post : correct.other ≡ 0 → IsPostReplied after rows correct.branch correct.account text
+  pub of_transfer : correct.other ≢ 0 → IsTransferReplied after rows correct.branch correct.account correct.other text
 
 -- all that it is
 abbrev pub correct_form : Correct → Form
@@ -112,6 +128,7 @@ correct_form correct = record {
   moves = correct_moves correct;
   IsJudged = λ w user. IsCorrectJudged w user correct;
   AreAsked = λ w rows. AreCorrectAsked w correct rows;
+  IsReplied = λ by before after rows text. IsCorrectReplied after rows correct text;
 }
 
 abbrev pub correct_meaning : Correct → Signature → WorldLists → Meaning

@@ -3,7 +3,9 @@ use Rattle.bank_meaning.specs.AskedRows.{LineSays, line_says}
 use Rattle.bank_books.specs.declared.row_write.RowWrite.{RowWrite}
 use Rattle.bank_books.specs.declared.row_write.RowWrite.TheVariants as write
 use Rattle.bank_books.specs.declared.rows.LineForm.TheVariants as line_form
-use Rattle.std.specs.Prelude.{ℤ, ◌≡◌}
+use Rattle.bank_books.specs.declared.rows.CashLine.{CashLine}
+use Rattle.bank_books.specs.Cash.{cash_of, line_count}
+use Rattle.std.specs.Prelude.{ℤ, ◌≡◌, ◌+◌}
 use Rattle.std.specs.Prelude.{ℕ, List, [], ◌∷◌, ◌++◌, codes, decimal}
 use Rattle.std.specs.Option.{option_map_or}
 use Rattle.std.specs.Fmt.{signed_decimal}
@@ -20,7 +22,7 @@ use Rattle.drawers.specs.declared.drawer_rows.DrawerRows.{DrawerRows}
 use Rattle.bank_meaning.specs.Form.{Form, said_by}
 use Rattle.bank_meaning.specs.Moves.{moves_nothing}
 use Rattle.bank_meaning.specs.Denial.{cents, natural}
-use Rattle.bank_meaning.specs.Meaning.{Meaning, json}
+use Rattle.bank_meaning.specs.Meaning.{Meaning, ReplyText, json}
 use Rattle.bank_meaning.specs.JudgedRows.{HasBranch, HasDrawer, PlaceCovers}
 use Rattle.std.specs.Prelude.{pos, neg_ℤ, None}
 
@@ -40,14 +42,24 @@ pub record IsDrawerOnJudged (w : WorldLists) (form : DrawerOn) : Type 0 where
   pub drawer : HasDrawer w form.teller form.branch None
   pub cash : PlaceCovers w 0 form.branch (neg_ℤ (pos form.cash))
 
--- at a place of the branch
-abbrev pub on_says : DrawerOn → ℕ → ℤ → LineSays
-on_says form place amount = record { branch = form.branch; place = place; amount = amount; form = line_form.On }
+-- with this number, at a place of the branch
+abbrev pub on_says : DrawerOn → ℕ → ℕ → ℤ → LineSays
+on_says form number place amount = record { branch = form.branch; number = number; place = place; amount = amount; form = line_form.On }
 
 -- the cash out of the vault and into the drawer
-abbrev pub AreDrawerOnAsked : DrawerOn → List RowWrite → Type 0
-AreDrawerOnAsked form (write.Line vault ∷ write.Line drawer ∷ []) = (line_says vault ≡ on_says form 0 (neg_ℤ (pos form.cash))) × (line_says drawer ≡ on_says form form.teller (pos form.cash))
-AreDrawerOnAsked form _ = ⊥
+abbrev pub AreDrawerOnAsked : WorldLists → DrawerOn → List RowWrite → Type 0
+AreDrawerOnAsked w form rows =
+    let n = line_count form.branch w.lines in
+    (vault : CashLine)
+    × (drawer : CashLine)
+    × (rows ≡ write.Line vault ∷ write.Line drawer ∷ [])
+    × (line_says vault ≡ on_says form (n + 1) 0 (neg_ℤ (pos form.cash)))
+    × (line_says drawer ≡ on_says form (n + 2) form.teller (pos form.cash))
+
+-- the cash that drawer and vault have after it
+abbrev pub IsDrawerOnReplied : WorldLists → DrawerOn → ReplyText → Type 0
+IsDrawerOnReplied after form text =
+    text ≡ json (put_on_text (record { cash = cash_of after form.branch form.teller; teller = form.teller; vault = cash_of after form.branch 0 }))
 
 -- all that it is
 abbrev pub drawer_on_form : DrawerOn → Form
@@ -60,7 +72,8 @@ drawer_on_form form = record {
   is_report = false;
   moves = moves_nothing;
   IsJudged = λ w user. IsDrawerOnJudged w form;
-  AreAsked = λ w rows. AreDrawerOnAsked form rows;
+  AreAsked = λ w rows. AreDrawerOnAsked w form rows;
+  IsReplied = λ by before after rows text. IsDrawerOnReplied after form text;
 }
 
 abbrev pub drawer_on_meaning : DrawerOn → Signature → WorldLists → Meaning

@@ -5,7 +5,7 @@ use Rattle.bank_terms.specs.declared.rule.Rule.{Rule}
 use Rattle.bank_terms.specs.declared.rule.Rule.TheVariants as rule
 use Rattle.bank_books.specs.WorldLists.{WorldLists}
 use Rattle.bank_books.specs.declared.signature.Signature.{Signature}
-use Rattle.bank_meaning.specs.Meaning.{Meaning, Verdict, rules_behind_policy}
+use Rattle.bank_meaning.specs.Meaning.{Meaning, Verdict, rules_after_policy}
 use Rattle.bank_meaning.specs.Operations.{meaning_of}
 use Rattle.bank_meaning.specs.PolicyRules.{asker, grounds, leave_of, policy_denies, used_by}
 use Rattle.bank_meaning.specs.declared.execution.Execution.{Execution}
@@ -37,7 +37,7 @@ execution_meaning w x = record {
 
 -- the rules that it is judged by beside its slip, in their order
 abbrev pub rules_of_executions : List Rule
-rules_of_executions = rule.Identity ∷ rule.NotCertified ∷ rule.NoTriple ∷ rule.Limit ∷ rule.Release ∷ rules_behind_policy
+rules_of_executions = rule.Identity ∷ rule.NotCertified ∷ rule.NoTriple ∷ rule.Limit ∷ rule.Release ∷ rules_after_policy
 
 -- all that is said of it beside its slip
 abbrev pub execution_verdict : Execution → WorldLists → Verdict

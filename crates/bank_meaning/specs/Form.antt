@@ -24,8 +24,10 @@ pub record Form : Type 1 where
   pub moves : Moves
   -- what is so of the rows of a World where no rule denies it to a user, in the terms of a reader
   pub IsJudged : WorldLists → ℕ → Type 0
-  -- which rows were asked to be added to a World, in their order and by what they say, in the same terms
+  -- which rows were asked to be added to a World, in their order and by all that they say, in the same terms
   pub AreAsked : WorldLists → List RowWrite → Type 0
+  -- what its reply says: the values of the World after it, and the numbers of the rows that it added; of a report, those of the World before it
+  pub IsReplied : Signature → (before after : WorldLists) → List RowWrite → ReplyText → Type 0
 
 -- what it changes in a World
 abbrev pub changed_by : Form → Signature → WorldLists → List RowWrite

@@ -1,6 +1,8 @@
 -- What holds along every list of requests, in one record: what becomes of each, the sums, the policy in force, and what bears a slip.
-use Rattle.std.specs.Prelude.{ℕ, ◌≡◌, ◌≢◌, ◌↔◌, ◌+◌, ◌<◌, true, List, Some, None, Ok, Err, slice_get, take}
+use Rattle.std.specs.Prelude.{ℕ, ◌≡◌, ◌≢◌, ◌↔◌, ◌+◌, ◌<◌, true, false, Bool, List, Some, None, Result, Ok, Err, slice_get, take}
 use Rattle.money.specs.declared.fault.Fault.{Fault}
+use Rattle.bank_policy.specs.HeldRows.{standing}
+use Rattle.bank_policy.specs.declared.rows.Standing.{Standing}
 use Rattle.bank_terms.specs.declared.rule.Rule.{Rule}
 use Rattle.bank_books.specs.WorldLists.{WorldLists}
 use Rattle.counter_ops.specs.Op.{procedure_of}
@@ -8,21 +10,30 @@ use Rattle.policy_check.specs.Separation.{Certifies}
 use Rattle.policy_commands.specs.declared.policy_op.PolicyOp.{PolicyOp}
 use Rattle.bank_meaning.specs.Amounts.{IsWithinAmount}
 use Rattle.bank_meaning.specs.BooksJudged.{IsBooksJudged}
-use Rattle.bank_meaning.specs.CommandsJudged.{IsCommandJudged, IsListingJudged}
+use Rattle.bank_meaning.specs.CommandsJudged.{IsCommandJudged, IsListingJudged, IsOpeningJudged}
 use Rattle.bank_meaning.specs.LastWord.{HasLastWord}
-use Rattle.bank_meaning.specs.Laws.{IsFirstRule, IsHeld}
-use Rattle.bank_meaning.specs.Meaning.{json}
+use Rattle.bank_meaning.specs.Laws.{IsFirstRule, IsHeld, IsIdentified}
+use Rattle.bank_meaning.specs.Meaning.{ReplyText, json}
 use Rattle.bank_meaning.specs.Once.{ActsOnce}
 use Rattle.bank_meaning.specs.PolicyRules.{asker}
 use Rattle.bank_meaning.specs.Recorded.{RowsAreAsked}
 use Rattle.bank_meaning.specs.Repeats.{IsKeptReply}
 use Rattle.bank_meaning.specs.Requests.{effect, executes, first, repeated, reply_text}
 use Rattle.bank_meaning.specs.Run.{Marked, is_accepted, reply, world_after}
+use Rattle.bank_meaning.specs.Sessions.{ending_text, opening_text}
 use Rattle.bank_meaning.specs.Slips.{slip_named}
 use Rattle.bank_meaning.specs.Sums.{AreProper, PassesChecks, SumsAgree}
 use Rattle.bank_meaning.specs.declared.execution.Execution.{Execution}
 use Rattle.bank_meaning.specs.declared.request.Asked.TheVariants as asked
 use Rattle.bank_meaning.specs.declared.request.Request.{Request}
+use Rattle.bank_meaning.specs.declared.who.Who.{Who}
+
+-- The user who asks has a session that is open, or is not, and the reply has its number.
+pub record IsSessionReplied (after : WorldLists) (who : Who) (is_open : Bool) (text : ℕ → List ℕ) (replied : Result ReplyText Rule) : Type 0 where
+  pub row : Standing
+  pub there : standing after.policy (asker who) ≡ Some row
+  pub on : row.on ≡ is_open
+  pub says : replied ≡ Ok (json (text row.session))
 
 -- A request that is made, in the World that those before it left, and the World after it.
 pub record IsMadeRightly (w : WorldLists) (q : Request) (after : WorldLists) : Type 0 where
@@ -40,10 +51,16 @@ pub record IsMadeRightly (w : WorldLists) (q : Request) (after : WorldLists) : T
   pub within : (x : Execution) → q ≡ executes x → IsWithinAmount w x
   -- what is carried out adds the rows that were asked for, and no others
   pub added : (x : Execution) → q ≡ executes x → repeated w q ≡ None → first w q ≡ None → RowsAreAsked w after x
-  -- Clark and Wilson's rule E4: who executes a procedure does not certify it, and who commands is who may
+  -- Clark and Wilson's rule E4: who executes a procedure does not certify it
   pub apart : (x : Execution) → q ≡ executes x → first w q ≡ None → ¬ Certifies w.policy (asker x.who) (procedure_of x.op)
-  pub commanded : (c : PolicyOp) → q.asked ≡ asked.Command c → first w q ≡ None → IsCommandJudged w q.who c
-  pub listed : q.asked ≡ asked.Listing → first w q ≡ None → IsListingJudged w q.who
+  -- and no rule denies a command, the listing, or the opening or ending of a session exactly where who asks may
+  pub commanded : (c : PolicyOp) → q.asked ≡ asked.Command c → (first w q ≡ None ↔ IsCommandJudged w q.who c)
+  pub listed : q.asked ≡ asked.Listing → (first w q ≡ None ↔ IsListingJudged w q.who)
+  pub opened : q.asked ≡ asked.Opening → (first w q ≡ None ↔ IsOpeningJudged w q.who.user)
+  pub ended : q.asked ≡ asked.Ending → (first w q ≡ None ↔ IsIdentified w q.who)
+  -- and what is replied is the number of the session that the World after it has
+  pub opened_as : q.asked ≡ asked.Opening → first w q ≡ None → IsSessionReplied after q.who true opening_text (reply w q)
+  pub ended_as : q.asked ≡ asked.Ending → first w q ≡ None → IsSessionReplied after q.who false ending_text (reply w q)
 
 -- One with its mark: what a fault kept from being made changes nothing.
 pub record IsTreatedRightly (w : WorldLists) (m : Marked) (after : WorldLists) : Type 0 where

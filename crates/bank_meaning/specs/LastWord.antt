@@ -24,26 +24,26 @@ abbrev pub finds_room : WorldLists → Asked → Bool
 finds_room w (asked.Command command) = nat_lt w.version max_version
 finds_room w _ = true
 
-abbrev pub is_heard : WorldLists → Marked → Bool
-is_heard w m = is_accepted w m && finds_room w m.request.asked
+abbrev pub is_effective : WorldLists → Marked → Bool
+is_effective w m = is_accepted w m && finds_room w m.request.asked
 
 -- the requests of a list that have a word: those that are accepted, with room for them where they are commands
-abbrev pub heard : WorldLists → List Marked → List Request
-heard w [] = []
-heard w (m ∷ ms) = if is_heard w m then m.request ∷ heard (after_request w m) ms else heard (after_request w m) ms
+abbrev pub effective : WorldLists → List Marked → List Request
+effective w [] = []
+effective w (m ∷ ms) = if is_effective w m then m.request ∷ effective (after_request w m) ms else effective (after_request w m) ms
 
 -- after the requests
 pub record HasLastWord (w : WorldLists) (requests : List Marked) : Type 0 where
   -- after each of them, too
-  pub in_force : (n : ℕ) → IsInForce w.policy (heard w (take n requests)) (world_after w (take n requests)).policy
+  pub in_force : (n : ℕ) → IsInForce w.policy (effective w (take n requests)) (world_after w (take n requests)).policy
   -- each command that is heard makes one version more
-  pub version : (world_after w requests).version ≡ w.version + count_by (λ r. is_command r.asked) (heard w requests)
+  pub version : (world_after w requests).version ≡ w.version + count_by (λ r. is_command r.asked) (effective w requests)
   -- until the versions are used up, each request that is accepted is heard
-  pub all_heard : w.version + count_by (λ r. is_command r.asked) (accepted w requests) ≤ max_version → heard w requests ≡ accepted w requests
+  pub all_effective : w.version + count_by (λ r. is_command r.asked) (accepted w requests) ≤ max_version → effective w requests ≡ accepted w requests
   -- no other policy is in force
-  pub alone : (p : PolicyLists) → IsPolicySound p → IsPolicyInOrder p → IsInForce w.policy (heard w requests) p → p ≡ (world_after w requests).policy
+  pub alone : (p : PolicyLists) → IsPolicySound p → IsPolicyInOrder p → IsInForce w.policy (effective w requests) p → p ≡ (world_after w requests).policy
   -- so each rule says the same of a request, be it read over that
-  pub rules : (p : PolicyLists) → IsPolicySound p → IsPolicyInOrder p → IsInForce w.policy (heard w requests) p
+  pub rules : (p : PolicyLists) → IsPolicySound p → IsPolicyInOrder p → IsInForce w.policy (effective w requests) p
       → (q : Request) → first (record (world_after w requests) { policy = p }) q ≡ first (world_after w requests) q
 
 -- What a request leaves alone: an operation the policy and its version, and every other one all lists of the books.

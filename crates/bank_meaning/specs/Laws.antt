@@ -1,10 +1,11 @@
 -- What holds of every decision: the rule that is named is the first that denies, the tests of the policy ask what Clark
 -- and Wilson's rules E1 and E2 ask, a release is valid once, an account that is opened and a release that is given keep
 -- the books, and a session changes nothing else.
-use Rattle.std.specs.Prelude.{ℕ, ◌≡◌, ◌≢◌, ◌↔◌, ◌⊎◌, ◌==◌, ◌≤◌, ◌++◌, Bool, true, false, Option, Some, None, List, [], ◌∷◌, map, All, count_by}
+use Rattle.std.specs.Prelude.{ℕ, ◌≡◌, ◌≢◌, ◌↔◌, ◌⊎◌, ◌==◌, ◌≤◌, ◌<◌, ◌++◌, Bool, true, false, Option, Some, None, List, [], ◌∷◌, map, All, count_by}
 use Rattle.std.specs.List.{AllZip}
 use Rattle.bank_policy.specs.Execution.{Certified, Held}
 use Rattle.bank_policy.specs.HeldRows.{standing}
+use Rattle.bank_terms.specs.Limits.{max_slips}
 use Rattle.bank_terms.specs.Rule.{number_of}
 use Rattle.bank_policy.specs.declared.rows.Standing.{Standing}
 use Rattle.bank_policy.specs.declared.rows.User.{User}
@@ -13,6 +14,8 @@ use Rattle.bank_terms.specs.declared.rule.Rule.{Rule}
 use Rattle.bank_terms.specs.declared.rule.Rule.TheVariants as rule
 use Rattle.bank_books.specs.Balances.{branch_row}
 use Rattle.bank_books.specs.Books.{Books}
+use Rattle.bank_books.specs.Records.{slip_count}
+use Rattle.bank_books.specs.SlipRow.{SlipRow}
 use Rattle.bank_books.specs.WorldLists.{WorldLists}
 use Rattle.bank_books.specs.declared.rows.Branch.{Branch}
 use Rattle.bank_books.specs.declared.rows.Release.{Release}
@@ -25,7 +28,7 @@ use Rattle.counter_ops.specs.declared.new_account.NewAccount.{NewAccount}
 use Rattle.counter_ops.specs.declared.op.Op.{Op}
 use Rattle.counter_ops.specs.declared.release.Release.{Release as Given}
 use Rattle.policy_commands.specs.declared.policy_op.PolicyOp.{PolicyOp}
-use Rattle.world_reads.specs.BookReads.{release}
+use Rattle.world_reads.specs.BookReads.{release, slip}
 use Rattle.rule_tests.specs.Signed.{IsSigned}
 use Rattle.counter_ops.specs.Touched.{amount, touched}
 use Rattle.bank_meaning.specs.NamedRelease.{release_grounds}
@@ -35,7 +38,7 @@ use Rattle.bank_meaning.specs.PolicyRules.{asker}
 use Rattle.bank_meaning.specs.Meaning.{by_books}
 use Rattle.bank_meaning.specs.Requests.{commands, denies, effect, ends_session, executes, first, opens_session, rules}
 use Rattle.bank_meaning.specs.Executions.{books_meaning, is_of_policy}
-use Rattle.bank_meaning.specs.Slips.{has_no_room, is_of_another, slip_grounds, taken_by}
+use Rattle.bank_meaning.specs.Slips.{is_of_another, slip_grounds, slip_named, taken_by}
 use Rattle.bank_meaning.specs.declared.execution.Execution.{Execution}
 use Rattle.bank_meaning.specs.declared.request.Request.{Request}
 use Rattle.bank_meaning.specs.declared.who.Who.{Who}
@@ -151,10 +154,20 @@ abbrev pub InLimitOrReleased : WorldLists → Execution → Type 0
 InLimitOrReleased w x =
     InLimit w (asker x.who) x.op x.moment ⊎ (((limit : ℕ) × Held w.policy (asker x.who) (procedure_of x.op) (touched x.op) limit x.moment) × IsReleased w x)
 
--- the slip that it bears, if any, is not one of another operation, and has room where it is a new one
-pub record SlipAllows (w : WorldLists) (x : Execution) : Type 0 where
-  pub not_another : is_of_another (slip_grounds w x) ≡ false
-  pub has_room : has_no_room (slip_grounds w x) ≡ false
+-- the user who asks has no slip of the number that is named, and fewer than 100,000
+pub record HasRoomForSlip (w : WorldLists) (x : Execution) : Type 0 where
+  pub free : slip w (asker x.who) (slip_named x) ≡ None
+  pub room : slip_count (asker x.who) w.slips < max_slips
+
+-- the user has the slip of that number, with this very operation
+pub record HasItsSlip (w : WorldLists) (x : Execution) : Type 0 where
+  pub row : SlipRow
+  pub there : slip w (asker x.who) (slip_named x) ≡ Some row
+  pub operation : row.operation ≡ row_of x.op
+
+-- no slip is named, or there is room for a new one, or it is that of this operation
+abbrev pub SlipAllows : WorldLists → Execution → Type 0
+SlipAllows w x = (slip_named x ≡ 0) ⊎ (HasRoomForSlip w x ⊎ HasItsSlip w x)
 
 -- Its user is known, its procedure is certified for what it touches, some one triple of the user's holds all of that,
 -- within its limit or by a valid release, no rule of the books denies it, and its slip allows it.

@@ -32,8 +32,8 @@ pub record Meaning : Type 0 where
 
 -- The rules that follow those of the policy, in their order: those of the books, and then those on commands, of which
 -- none denies an operation.
-abbrev pub rules_behind_policy : List Rule
-rules_behind_policy =
+abbrev pub rules_after_policy : List Rule
+rules_after_policy =
     rule.Unknown ∷ rule.Branch ∷ rule.Drawer ∷ rule.SecondPerson ∷ rule.Entry ∷ rule.Floor ∷ rule.Cash ∷ rule.Range ∷ rule.Taken ∷ rule.Day ∷ rule.Full
     ∷ rule.Officer ∷ rule.Certifier ∷ rule.Separation ∷ rule.PolicyUnknown ∷ rule.PolicyState ∷ []
 
@@ -45,4 +45,4 @@ pub record Verdict : Type 0 where
 
 -- by the rules that follow those of the policy alone: of an operation, by those of the books
 abbrev pub by_books : Meaning → Verdict
-by_books m = record { first = find (λ r. m.denies r) rules_behind_policy; effect = m.effect; reply = m.reply }
+by_books m = record { first = find (λ r. m.denies r) rules_after_policy; effect = m.effect; reply = m.reply }

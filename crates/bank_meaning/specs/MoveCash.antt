@@ -3,7 +3,9 @@ use Rattle.bank_meaning.specs.AskedRows.{LineSays, line_says}
 use Rattle.bank_books.specs.declared.row_write.RowWrite.{RowWrite}
 use Rattle.bank_books.specs.declared.row_write.RowWrite.TheVariants as write
 use Rattle.bank_books.specs.declared.rows.LineForm.TheVariants as line_form
-use Rattle.std.specs.Prelude.{ℤ}
+use Rattle.bank_books.specs.declared.rows.CashLine.{CashLine}
+use Rattle.bank_books.specs.Cash.{cash_of, line_count}
+use Rattle.std.specs.Prelude.{ℤ, ◌+◌}
 use Rattle.std.specs.Prelude.{ℕ, List, [], ◌∷◌, ◌++◌, codes, decimal}
 use Rattle.std.specs.Option.{option_map_or}
 use Rattle.std.specs.Fmt.{signed_decimal}
@@ -19,7 +21,7 @@ use Rattle.drawers.specs.declared.move_cash.MoveRows.{MoveRows}
 use Rattle.bank_meaning.specs.Form.{Form, said_by}
 use Rattle.bank_meaning.specs.Moves.{moves_nothing}
 use Rattle.bank_meaning.specs.Denial.{cents, natural}
-use Rattle.bank_meaning.specs.Meaning.{Meaning, json}
+use Rattle.bank_meaning.specs.Meaning.{Meaning, ReplyText, json}
 use Rattle.bank_meaning.specs.JudgedRows.{HasBranch, HoldsDrawer, PlaceCovers}
 use Rattle.std.specs.Prelude.{pos, neg_ℤ, ◌≡◌, ◌≢◌}
 
@@ -41,15 +43,24 @@ pub record IsMoveJudged (w : WorldLists) (user : ℕ) (move : MoveCash) : Type 0
   pub target : move.target ≢ 0 → (holder : ℕ) × HoldsDrawer w holder move.target move.branch
   pub cash : PlaceCovers w move.source move.branch (neg_ℤ (pos move.amount))
 
--- at a place of the branch
-abbrev pub move_says : MoveCash → ℕ → ℤ → LineSays
-move_says move place amount = record { branch = move.branch; place = place; amount = amount; form = line_form.Move }
+-- with this number, at a place of the branch
+abbrev pub move_says : MoveCash → ℕ → ℕ → ℤ → LineSays
+move_says move number place amount = record { branch = move.branch; number = number; place = place; amount = amount; form = line_form.Move }
 
 -- the amount out of the source and into the target
-abbrev pub AreMoveAsked : MoveCash → List RowWrite → Type 0
-AreMoveAsked move (write.Line source ∷ write.Line target ∷ []) =
-    (line_says source ≡ move_says move move.source (neg_ℤ (pos move.amount))) × (line_says target ≡ move_says move move.target (pos move.amount))
-AreMoveAsked move _ = ⊥
+abbrev pub AreMoveAsked : WorldLists → MoveCash → List RowWrite → Type 0
+AreMoveAsked w move rows =
+    let n = line_count move.branch w.lines in
+    (source : CashLine)
+    × (target : CashLine)
+    × (rows ≡ write.Line source ∷ write.Line target ∷ [])
+    × (line_says source ≡ move_says move (n + 1) move.source (neg_ℤ (pos move.amount)))
+    × (line_says target ≡ move_says move (n + 2) move.target (pos move.amount))
+
+-- the amount, and the cash that both places have after it
+abbrev pub IsMoveReplied : WorldLists → MoveCash → ReplyText → Type 0
+IsMoveReplied after move text =
+    text ≡ json (moved_text (record { moved = move.amount; source = cash_of after move.branch move.source; target = cash_of after move.branch move.target }))
 
 -- all that it is
 abbrev pub move_form : MoveCash → Form
@@ -62,7 +73,8 @@ move_form move = record {
   is_report = false;
   moves = moves_nothing;
   IsJudged = λ w user. IsMoveJudged w user move;
-  AreAsked = λ w rows. AreMoveAsked move rows;
+  AreAsked = λ w rows. AreMoveAsked w move rows;
+  IsReplied = λ by before after rows text. IsMoveReplied after move text;
 }
 
 abbrev pub move_meaning : MoveCash → Signature → WorldLists → Meaning

@@ -60,8 +60,7 @@ pub record IsNewAccountJudged (w : WorldLists) (form : NewAccount) : Type 0 wher
 
 -- the account, with its home and its floor and with nothing in it
 abbrev pub AreNewAccountAsked : NewAccount → List RowWrite → Type 0
-AreNewAccountAsked form (write.Account a ∷ []) = a ≡ record { account = form.account; home = form.branch; opening = pos 0; floor = form.floor }
-AreNewAccountAsked form _ = ⊥
+AreNewAccountAsked form rows = rows ≡ write.Account (record { account = form.account; home = form.branch; opening = pos 0; floor = form.floor }) ∷ []
 
 -- all that it is
 abbrev pub new_account_form : NewAccount → Form
@@ -75,6 +74,8 @@ new_account_form form = record {
   moves = moves_nothing;
   IsJudged = λ w user. IsNewAccountJudged w form;
   AreAsked = λ w rows. AreNewAccountAsked form rows;
+  -- the account and its home
+  IsReplied = λ by before after rows text. text ≡ json (opened_text form);
 }
 
 abbrev pub new_account_meaning : NewAccount → WorldLists → Meaning

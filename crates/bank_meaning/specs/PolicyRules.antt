@@ -16,8 +16,8 @@ use Rattle.counter_ops.specs.Rows.{row_of}
 use Rattle.counter_ops.specs.Touched.{amount, touched}
 use Rattle.rule_tests.specs.Denial.{first_denial, is_denial}
 use Rattle.bank_meaning.specs.NamedRelease.{ReleaseGrounds, counts, release_grounds}
-use Rattle.bank_meaning.specs.declared.leave.Leave.{Leave}
-use Rattle.bank_meaning.specs.declared.leave.Leave.TheVariants as leave
+use Rattle.bank_meaning.specs.declared.leave.Authorization.{Authorization}
+use Rattle.bank_meaning.specs.declared.leave.Authorization.TheVariants as leave
 use Rattle.bank_meaning.specs.declared.execution.Execution.{Execution}
 use Rattle.bank_meaning.specs.declared.who.Who.{Who}
 
@@ -88,7 +88,7 @@ abbrev pub first_of_policy : Grounds → Option Rule
 first_of_policy g = first_denial (policy_tests g)
 
 -- what authorizes it, where no rule denies: a triple of the user's own, or else the release that is named
-abbrev pub leave_of : Grounds → Leave
+abbrev pub leave_of : Grounds → Authorization
 leave_of g = if is_in_limit g then leave.Triple else leave.Release g.release
 
 abbrev pub unless_denied : {A : Type 0} → Option Rule → A → Result A Rule
@@ -96,24 +96,24 @@ unless_denied None value = Ok value
 unless_denied (Some rule) value = Err rule
 
 -- the authorization that the policy gives, or its first rule against it
-abbrev pub leave_by_policy : Grounds → Result Leave Rule
+abbrev pub leave_by_policy : Grounds → Result Authorization Rule
 leave_by_policy g = unless_denied (first_of_policy g) (leave_of g)
 
 -- the authorization that a user's triples give, or the first rule by which they give none: a triple that reaches the
 -- amount, or else the release that is named
-abbrev pub leave_by_triples : List HeldTriple → List Cdi → ℕ → ℕ → Result Leave Rule
-leave_by_triples held items amount release =
+abbrev pub authorization_by_triples : List HeldTriple → List Cdi → ℕ → ℕ → Result Authorization Rule
+authorization_by_triples held items amount release =
     if not (is_held held items) then Err rule.NoTriple
     else (if is_held_for held items amount then Ok leave.Triple else (if release == 0 then Err rule.Limit else Ok (leave.Release release)))
 
 -- The authorization that is sought, or the first rule before that on releases: it is a release where no triple reaches
 -- the amount, whether that is valid or not.
-abbrev pub leave_sought : Grounds → Result Leave Rule
+abbrev pub leave_sought : Grounds → Result Authorization Rule
 leave_sought g =
     if not (is_identified g.standing g.session) then Err rule.Identity
-    else (if not (is_certified g.relations g.items) then Err rule.NotCertified else leave_by_triples g.held g.items g.amount g.release)
+    else (if not (is_certified g.relations g.items) then Err rule.NotCertified else authorization_by_triples g.held g.items g.amount g.release)
 
 -- the World where an authorization was used: a release is marked as used
-abbrev pub used_by : Leave → ℕ → WorldLists → WorldLists
+abbrev pub used_by : Authorization → ℕ → WorldLists → WorldLists
 used_by leave.Triple user w = w
 used_by (leave.Release number) user w = written (write.Used (record { user = user; number = number })) w

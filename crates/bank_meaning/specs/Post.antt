@@ -1,11 +1,14 @@
 -- A post as an operation: its reply and its meaning. The rows that it is judged on, the rules against it, its effect and what it leaves are those of its plan.
 use Rattle.bank_meaning.specs.AskedRows.{EntrySays, LineSays, entry_says, line_says}
-use Rattle.bank_books.specs.Balances.{entry_count}
+use Rattle.bank_books.specs.Balances.{account_balance, entry_count, turn_count}
+use Rattle.bank_books.specs.Cash.{line_count}
+use Rattle.bank_books.specs.declared.rows.CashLine.{CashLine}
+use Rattle.bank_books.specs.declared.rows.Entry.{Entry}
 use Rattle.bank_books.specs.declared.row_write.RowWrite.{RowWrite}
 use Rattle.bank_books.specs.declared.row_write.RowWrite.TheVariants as write
 use Rattle.bank_books.specs.declared.rows.EntryForm.TheVariants as entry_form
 use Rattle.bank_books.specs.declared.rows.LineForm.TheVariants as line_form
-use Rattle.std.specs.Prelude.{◌≡◌, ◌+◌}
+use Rattle.std.specs.Prelude.{◌≡◌, ◌+◌, Contains}
 use Rattle.std.specs.Prelude.{ℕ, List, [], ◌∷◌, ◌++◌, codes, decimal}
 use Rattle.std.specs.Option.{option_map_or}
 use Rattle.std.specs.Fmt.{signed_decimal}
@@ -21,7 +24,7 @@ use Rattle.postings.specs.declared.post.PostRows.{PostRows}
 use Rattle.bank_meaning.specs.Form.{Form, said_by}
 use Rattle.bank_meaning.specs.Moves.{Moves}
 use Rattle.bank_meaning.specs.Denial.{cents, natural}
-use Rattle.bank_meaning.specs.Meaning.{Meaning, json}
+use Rattle.bank_meaning.specs.Meaning.{Meaning, ReplyText, json}
 use Rattle.bank_meaning.specs.JudgedRows.{HasBranch, KeepsFloor, HoldsDrawer, DrawerCovers}
 
 -- the balance of the account after it, and the place of its entry
@@ -52,6 +55,7 @@ abbrev pub post_says : WorldLists → Post → EntrySays
 post_says w post = record {
   branch = post.branch;
   number = entry_count post.branch w.entries + 1;
+  turn = turn_count post.account w.entries + 1;
   teller = post.teller;
   account = post.account;
   delta = post.delta;
@@ -60,13 +64,18 @@ post_says w post = record {
   undoes = 0;
 }
 
-abbrev pub cash_says : Post → LineSays
-cash_says post = record { branch = post.branch; place = post.teller; amount = post.delta; form = line_form.CashEntry }
+abbrev pub cash_says : WorldLists → Post → LineSays
+cash_says w post = record { branch = post.branch; number = line_count post.branch w.lines + 1; place = post.teller; amount = post.delta; form = line_form.CashEntry }
 
 -- both of them
 abbrev pub ArePostAsked : WorldLists → Post → List RowWrite → Type 0
-ArePostAsked w post (write.Entry e ∷ write.Line l ∷ []) = (entry_says e ≡ post_says w post) × (line_says l ≡ cash_says post)
-ArePostAsked w post _ = ⊥
+ArePostAsked w post rows = (e : Entry) × (l : CashLine) × (rows ≡ write.Entry e ∷ write.Line l ∷ []) × (entry_says e ≡ post_says w post) × (line_says l ≡ cash_says w post)
+
+-- the balance that the account has after it, and the number of the entry that was added
+pub record IsPostReplied (after : WorldLists) (rows : List RowWrite) (branch account : ℕ) (text : ReplyText) : Type 0 where
+  pub entry : Entry
+  pub added : Contains rows (write.Entry entry)
+  pub says : text ≡ json (posted_text (record { balance = account_balance after account; branch = branch; entry = entry.number }))
 
 -- all that it is
 abbrev pub post_form : Post → Form
@@ -80,6 +89,7 @@ post_form post = record {
   moves = post_moves post;
   IsJudged = λ w user. IsPostJudged w user post;
   AreAsked = λ w rows. ArePostAsked w post rows;
+  IsReplied = λ by before after rows text. IsPostReplied after rows post.branch post.account text;
 }
 
 abbrev pub post_meaning : Post → Signature → WorldLists → Meaning

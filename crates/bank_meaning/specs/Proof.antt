@@ -40,6 +40,7 @@ proof_form form = record {
   moves = moves_nothing;
   IsJudged = λ w user. HasBranch w form.branch;
   AreAsked = λ w rows. rows ≡ [];
+  IsReplied = λ by before after rows text. text ≡ plain (proof_text before (branch_record before form.branch));
 }
 
 abbrev pub proof_meaning : Proof → WorldLists → Meaning

@@ -12,6 +12,7 @@ use Rattle.bank_books.specs.declared.rows.Proof.{Proof}
 use Rattle.bank_books.specs.declared.rows.Release.{Release}
 use Rattle.counter_ops.specs.Rows.{row_of}
 use Rattle.bank_meaning.specs.AskedRows.{Bears, today}
+use Rattle.bank_meaning.specs.Executions.{signature_of}
 use Rattle.bank_meaning.specs.Operations.{form_of}
 use Rattle.bank_meaning.specs.PolicyRules.{asker}
 use Rattle.bank_meaning.specs.Requests.{executes, reply_text}
@@ -71,6 +72,8 @@ pub record RowsAreAsked (w after : WorldLists) (x : Execution) : Type 0 where
   pub releases : (r : Release) → Contains after.releases r → Contains w.releases r ⊎ (IsUsedUp w x r ⊎ Contains rows (write.Release r))
   pub slips : (s : SlipRow) → Contains after.slips s → Contains w.slips s ⊎ IsTaken w x s
   pub policy : after.policy ≡ w.policy
+  -- and its reply says what is so after it
+  pub replied : (form_of x.op).IsReplied (signature_of x) w after rows (reply_text w (executes x))
 
 -- where it is accepted; else nothing is changed
 pub record IsDoneAsAsked (w : WorldLists) (x : Execution) : Type 0 where

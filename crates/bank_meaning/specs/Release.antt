@@ -9,7 +9,7 @@ use Rattle.counter_ops.specs.Releasable.{branch_of, op_of}
 use Rattle.counter_ops.specs.Rows.{row_of}
 use Rattle.counter_ops.specs.declared.release.Release.{Release}
 use Rattle.bank_books.specs.Effects.{applied}
-use Rattle.bank_books.specs.Records.{branch_record}
+use Rattle.bank_books.specs.Records.{branch_record, release_count}
 use Rattle.bank_books.specs.WorldLists.{WorldLists}
 use Rattle.bank_books.specs.declared.rows.Release.{Release as ReleaseRow}
 use Rattle.bank_books.specs.declared.row_write.RowWrite.{RowWrite}
@@ -20,12 +20,12 @@ use Rattle.world_reads.specs.PolicyReads.{user_record}
 use Rattle.bank_meaning.specs.Form.{Form, said_by}
 use Rattle.bank_meaning.specs.Moves.{moves_nothing}
 use Rattle.bank_meaning.specs.Denial.{natural}
-use Rattle.bank_meaning.specs.Meaning.{Meaning, json}
+use Rattle.bank_meaning.specs.Meaning.{Meaning, ReplyText, json}
 use Rattle.bank_meaning.specs.declared.release_rows.ReleaseRows.{ReleaseRows}
 use Rattle.bank_meaning.specs.JudgedRows.{HasBranch}
 use Rattle.bank_policy.specs.HeldRows.{user_row}
 use Rattle.bank_policy.specs.declared.rows.User.{User}
-use Rattle.std.specs.Prelude.{◌≡◌, ◌≢◌, Some}
+use Rattle.std.specs.Prelude.{◌≡◌, ◌≢◌, Some, Contains}
 
 -- how many releases the user has for whom it is, and the present day of the branch of the operation
 abbrev pub release_rows : WorldLists → Release → ReleaseRows
@@ -81,16 +81,22 @@ pub record IsReleaseJudged (w : WorldLists) (user : ℕ) (form : Release) : Type
   pub there : user_row w.policy form.beneficiary ≡ Some row
   pub other : form.beneficiary ≢ user
 
--- for this user and of this operation, unused
-pub record IsReleaseOf (form : Release) (r : ReleaseRow) : Type 0 where
+-- for this user, with their next number, and of this operation, unused
+pub record IsReleaseOf (w : WorldLists) (form : Release) (r : ReleaseRow) : Type 0 where
   pub user : r.user ≡ form.beneficiary
+  pub number : r.number ≡ release_count form.beneficiary w.releases + 1
   pub branch : r.branch ≡ branch_of form.operation
   pub operation : r.operation ≡ row_of (op_of form.operation)
   pub unused : r.used ≡ false
 
-abbrev pub AreReleaseAsked : Release → List RowWrite → Type 0
-AreReleaseAsked form (write.Release r ∷ []) = IsReleaseOf form r
-AreReleaseAsked form _ = ⊥
+abbrev pub AreReleaseAsked : WorldLists → Release → List RowWrite → Type 0
+AreReleaseAsked w form rows = (r : ReleaseRow) × (rows ≡ write.Release r ∷ []) × IsReleaseOf w form r
+
+-- for whom the release that was added is, and its number
+pub record IsReleaseReplied (rows : List RowWrite) (text : ReplyText) : Type 0 where
+  pub release : ReleaseRow
+  pub added : Contains rows (write.Release release)
+  pub says : text ≡ json (release_text release.user release.number)
 
 -- all that it is
 abbrev pub release_form : Release → Form
@@ -103,7 +109,8 @@ release_form form = record {
   is_report = false;
   moves = moves_nothing;
   IsJudged = λ w user. IsReleaseJudged w user form;
-  AreAsked = λ w rows. AreReleaseAsked form rows;
+  AreAsked = λ w rows. AreReleaseAsked w form rows;
+  IsReplied = λ by before after rows text. IsReleaseReplied rows text;
 }
 
 abbrev pub release_meaning : Release → Signature → WorldLists → Meaning

@@ -21,7 +21,7 @@ pub record BearsSlipOf (v : WorldLists) (x y : Execution) : Type 0 where
 -- In this World, what bears the slip of this operation gets this reply and changes nothing, whatever the policy is; with another operation its own rule denies it.
 pub record IsKeptReply (v : WorldLists) (x : Execution) (text : ReplyText) : Type 0 where
   pub left : (y : Execution) → BearsSlipOf v x y → row_of y.op ≡ row_of x.op → step v (executes y) ≡ v
-  pub told : (y : Execution) → BearsSlipOf v x y → row_of y.op ≡ row_of x.op → reply v (executes y) ≡ Ok (json text.bytes)
+  pub stated : (y : Execution) → BearsSlipOf v x y → row_of y.op ≡ row_of x.op → reply v (executes y) ≡ Ok (json text.bytes)
   pub denied : (y : Execution) → BearsSlipOf v x y → row_of y.op ≢ row_of x.op → reply v (executes y) ≡ Err rule.Slip
 
 -- after an operation with a slip that was accepted, and any further requests with any marks
@@ -42,7 +42,7 @@ MayBeLeft w x left = (left ≡ w) ⊎ (left ≡ step w (executes x))
 -- sent to that World, it leaves what it leaves once, and is replied what it was replied at first
 pub record IsRetried (w : WorldLists) (x : Execution) (left : WorldLists) : Type 0 where
   pub world : step left (executes x) ≡ step w (executes x)
-  pub told : reply left (executes x) ≡ reply w (executes x)
+  pub stated : reply left (executes x) ≡ reply w (executes x)
 
 -- The same operation is asked for again, with the same slip of the same user. The session, the moment and the release may be others.
 pub record IsSentAgain (x y : Execution) : Type 0 where
@@ -57,7 +57,7 @@ SentAgainBearsItsSlip = (v : WorldLists) (x y : Execution) → IsSentAgain x y �
 -- in this World it was carried out, or repeated, alone: that is what is left, and what is replied
 pub record IsAlone (w : WorldLists) (x : Execution) (left : WorldLists) (text : ReplyText) : Type 0 where
   pub world : left ≡ step w (executes x)
-  pub told : reply w (executes x) ≡ Ok text
+  pub stated : reply w (executes x) ≡ Ok text
 
 -- sent again to that World, and answered with 200, it has acted once: the first has and this is its repeat, or the first has not and this has
 abbrev pub HasActedOnce : WorldLists → Execution → Execution → WorldLists → ReplyText → Type 0

@@ -6,7 +6,7 @@ use Rattle.bank_terms.specs.declared.rule.Rule.TheVariants as rule
 use Rattle.bank_books.specs.WorldLists.{WorldLists}
 use Rattle.bank_meaning.specs.Commands.{command_meaning}
 use Rattle.bank_meaning.specs.Listing.{listing_meaning}
-use Rattle.bank_meaning.specs.Meaning.{Meaning, ReplyText, Verdict, rules_behind_policy}
+use Rattle.bank_meaning.specs.Meaning.{Meaning, ReplyText, Verdict, rules_after_policy}
 use Rattle.bank_meaning.specs.Sessions.{ending_meaning, opening_meaning}
 use Rattle.bank_meaning.specs.Slips.{repeated_execution, slipped_meaning}
 use Rattle.policy_commands.specs.declared.policy_op.PolicyOp.{PolicyOp}
@@ -64,7 +64,7 @@ denies r w q = (meaning w q).denies r
 
 -- All rules, in their order. Which of two comes first is said by their places in this list, and not by their numbers.
 abbrev pub rules : List Rule
-rules = rule.Identity ∷ rule.Slip ∷ rule.NotCertified ∷ rule.NoTriple ∷ rule.Limit ∷ rule.Release ∷ rules_behind_policy
+rules = rule.Identity ∷ rule.Slip ∷ rule.NotCertified ∷ rule.NoTriple ∷ rule.Limit ∷ rule.Release ∷ rules_after_policy
 
 -- the first rule that denies a request, or none
 abbrev pub first : WorldLists → Request → Option Rule

@@ -36,18 +36,18 @@ abbrev pub world_after : WorldLists → List Marked → WorldLists
 world_after w [] = w
 world_after w (m ∷ ms) = world_after (after_request w m) ms
 
-abbrev pub told : Option Rule → ReplyText → Result ReplyText Rule
-told None text = Ok text
-told (Some rule) text = Err rule
+abbrev pub stated : Option Rule → ReplyText → Result ReplyText Rule
+stated None text = Ok text
+stated (Some rule) text = Err rule
 
 -- of a repeat, what was kept
-abbrev pub told_again : Option (List ℕ) → Result ReplyText Rule → Result ReplyText Rule
-told_again None text = text
-told_again (Some kept) text = Ok (json kept)
+abbrev pub repeated_reply : Option (List ℕ) → Result ReplyText Rule → Result ReplyText Rule
+repeated_reply None text = text
+repeated_reply (Some kept) text = Ok (json kept)
 
 -- What a request is replied: its text, or the first rule that denies it; of a repeat, what was replied before.
 abbrev pub reply : WorldLists → Request → Result ReplyText Rule
-reply w r = told_again (repeated w r) (told (first w r) (reply_text w r))
+reply w r = repeated_reply (repeated w r) (stated (first w r) (reply_text w r))
 
 -- the rule by which it is denied, or none: none denies a repeat
 abbrev pub denied_by : WorldLists → Request → Option Rule

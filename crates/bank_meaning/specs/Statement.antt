@@ -41,6 +41,7 @@ statement_form form = record {
   moves = moves_nothing;
   IsJudged = λ w user. HasAccount w form.account;
   AreAsked = λ w rows. rows ≡ [];
+  IsReplied = λ by before after rows text. text ≡ plain (report_text before (statement_of form) form.count);
 }
 
 abbrev pub statement_meaning : Statement → WorldLists → Meaning

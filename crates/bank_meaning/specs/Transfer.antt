@@ -1,10 +1,11 @@
 -- A transfer as an operation: its reply and its meaning. The rest of it is that of its plan.
 use Rattle.bank_meaning.specs.AskedRows.{entry_says, EntrySays}
-use Rattle.bank_books.specs.Balances.{entry_count}
+use Rattle.bank_books.specs.Balances.{account_balance, entry_count, turn_count}
+use Rattle.bank_books.specs.declared.rows.Entry.{Entry}
 use Rattle.bank_books.specs.declared.row_write.RowWrite.{RowWrite}
 use Rattle.bank_books.specs.declared.row_write.RowWrite.TheVariants as write
 use Rattle.bank_books.specs.declared.rows.EntryForm.TheVariants as entry_form
-use Rattle.std.specs.Prelude.{◌≡◌, ◌+◌}
+use Rattle.std.specs.Prelude.{◌≡◌, ◌+◌, Contains}
 use Rattle.std.specs.Prelude.{ℕ, List, [], ◌∷◌, ◌++◌, codes, decimal}
 use Rattle.std.specs.Option.{option_map_or}
 use Rattle.std.specs.Fmt.{signed_decimal}
@@ -20,7 +21,7 @@ use Rattle.postings.specs.declared.transfer.TransferRows.{TransferRows}
 use Rattle.bank_meaning.specs.Form.{Form, said_by}
 use Rattle.bank_meaning.specs.Moves.{Moves}
 use Rattle.bank_meaning.specs.Denial.{cents, natural}
-use Rattle.bank_meaning.specs.Meaning.{Meaning, json}
+use Rattle.bank_meaning.specs.Meaning.{Meaning, ReplyText, json}
 use Rattle.bank_meaning.specs.JudgedRows.{HasBranch, KeepsFloor, HoldsDrawer}
 use Rattle.std.specs.Prelude.{neg_ℤ}
 
@@ -50,10 +51,11 @@ pub record IsTransferJudged (w : WorldLists) (user : ℕ) (transfer : Transfer) 
   pub target : KeepsFloor w transfer.target (pos transfer.amount)
 
 -- one of the two legs, with these numbers in the history
-abbrev pub leg_says : Transfer → ℕ → ℤ → ℕ → ℕ → EntrySays
-leg_says transfer account delta number partner = record {
+abbrev pub leg_says : WorldLists → Transfer → ℕ → ℤ → ℕ → ℕ → EntrySays
+leg_says w transfer account delta number partner = record {
   branch = transfer.branch;
   number = number;
+  turn = turn_count account w.entries + 1;
   teller = transfer.teller;
   account = account;
   delta = delta;
@@ -64,11 +66,30 @@ leg_says transfer account delta number partner = record {
 
 -- minus the amount at the source and plus the amount at the target, each the other's partner; and no cash
 abbrev pub AreTransferAsked : WorldLists → Transfer → List RowWrite → Type 0
-AreTransferAsked w transfer (write.Entry first ∷ write.Entry second ∷ []) =
+AreTransferAsked w transfer rows =
     let n = entry_count transfer.branch w.entries in
-    (entry_says first ≡ leg_says transfer transfer.source (neg_ℤ (pos transfer.amount)) (n + 1) (n + 2))
-    × (entry_says second ≡ leg_says transfer transfer.target (pos transfer.amount) (n + 2) (n + 1))
-AreTransferAsked w transfer _ = ⊥
+    (first : Entry)
+    × (second : Entry)
+    × (rows ≡ write.Entry first ∷ write.Entry second ∷ [])
+    × (entry_says first ≡ leg_says w transfer transfer.source (neg_ℤ (pos transfer.amount)) (n + 1) (n + 2))
+    × (entry_says second ≡ leg_says w transfer transfer.target (pos transfer.amount) (n + 2) (n + 1))
+
+-- the numbers of the two entries that were added, and the balances that both accounts have after it
+pub record IsTransferReplied (after : WorldLists) (rows : List RowWrite) (branch source target : ℕ) (text : ReplyText) : Type 0 where
+  pub first : Entry
+  pub first_added : Contains rows (write.Entry first)
+  pub first_account : first.account ≡ source
+  pub second : Entry
+  pub second_added : Contains rows (write.Entry second)
+  pub second_account : second.account ≡ target
+  pub says : text
+      ≡ json (transferred_text (record {
+        branch = branch;
+        first = first.number;
+        second = second.number;
+        source = account_balance after source;
+        target = account_balance after target;
+      }))
 
 -- all that it is
 abbrev pub transfer_form : Transfer → Form
@@ -82,6 +103,7 @@ transfer_form transfer = record {
   moves = transfer_moves transfer;
   IsJudged = λ w user. IsTransferJudged w user transfer;
   AreAsked = λ w rows. AreTransferAsked w transfer rows;
+  IsReplied = λ by before after rows text. IsTransferReplied after rows transfer.branch transfer.source transfer.target text;
 }
 
 abbrev pub transfer_meaning : Transfer → Signature → WorldLists → Meaning

@@ -1,8 +1,8 @@
 //! What holds of every World, of every decision, of the rows that it goes by, of amounts, of releases, of a new account, of sessions, and along every list of requests. The functions change nothing; their contracts are the laws.
 
 ghost use Rattle.bank_meaning.specs.Amounts.{AmountsBound};
-ghost use Rattle.bank_meaning.specs.BooksJudged.{BooksAreJudged, BooksDenyNoMore};
-ghost use Rattle.bank_meaning.specs.CommandsJudged.{CommandsAreJudged};
+ghost use Rattle.bank_meaning.specs.BooksJudged.{BooksAreJudged, BooksDenyNoMore, RowsAreTheChanges};
+ghost use Rattle.bank_meaning.specs.CommandsJudged.{CommandsAreJudged, CommandsDenyNoMore, ListingIsDeniedNoMore, OpeningIsDeniedNoMore};
 ghost use Rattle.bank_meaning.specs.Headline.{Headline};
 ghost use Rattle.bank_meaning.specs.LastWord.{LastWord};
 ghost use Rattle.bank_meaning.specs.Laws.{AllowedExactlyWhenHeld, DeniedBeforeTheBooks, FirstByPlace, IdentityIsJudged, NewAccountKeepsBooks, PolicyIsJudged, ReleaseKeepsBooks, ReleasesAreUsedOnce, SessionsChangeNoMore};
@@ -71,10 +71,16 @@ pub fn books_are_judged()
 {}
 
 /// And the rules of the books deny no more than that. Of every World that passes both checks, a proper operation that is asked for by
-/// whom and where it has to be, and after which the books hold, is denied by none of them. That the books hold after it says that
-/// each sum stays in the range of money, and that a number was left for each row.
+/// whom and where it has to be, is denied by none of them, if the books hold with whatever rows say what was asked and bear who asked,
+/// when and on which day. That they do says that each sum stays in the range of money, and that a number was left for each row.
 pub fn books_deny_no_more()
     ensures { BooksDenyNoMore }
+{}
+
+/// And those rows are the ones that the operation adds: no others say what was asked, with the numbers that come next, and bear who
+/// asked, when and on which day.
+pub fn rows_are_the_changes()
+    ensures { RowsAreTheChanges }
 {}
 
 /// Of every World that passes both checks, and of every proper operation: its amount, in cents, is the most by which it moves the
@@ -104,9 +110,26 @@ pub fn questions_change_nothing()
 
 /// A command that no rule denies is asked for by a user who is known and not suspended: by an officer to appoint, dismiss, enrol,
 /// suspend or restore; by a certifier of the procedure to certify, withdraw, grant or revoke; by any certifier to define a set. What
-/// it adds was not there, what it takes away was, and nobody suspends themselves. The policy is listed to officers alone.
+/// it adds was not there, what it takes away was, and nobody suspends themselves. Who is to execute a procedure neither certifies it nor
+/// did, who is to certify one executes none of it, and neither is an officer. The policy is listed to officers alone. Who opens a session
+/// is there and not suspended, and has a number left for it; who ends one is known by it.
 pub fn commands_are_judged()
     ensures { CommandsAreJudged }
+{}
+
+/// And the rules deny no more than that: of every World that passes both checks, a command of which all of it is so is denied by none.
+pub fn commands_deny_no_more()
+    ensures { CommandsDenyNoMore }
+{}
+
+/// Of every World that passes both checks: the policy is listed to each officer who is known.
+pub fn listing_is_denied_no_more()
+    ensures { ListingIsDeniedNoMore }
+{}
+
+/// A session is opened for each user who is there and not suspended, and has a number left for it.
+pub fn opening_is_denied_no_more()
+    ensures { OpeningIsDeniedNoMore }
 {}
 
 /// An operation is allowed exactly when its user is known, some one triple of the user's holds all that it

@@ -2,7 +2,7 @@
 
 /// What lets a user execute an operation up to its amount.
 #[derive(Clone, Copy, Debug, PartialEq, Eq)]
-pub enum Leave {
+pub enum Authorization {
     /// A triple of the user's own.
     Triple,
     /// A release of this number that the user was given, which is used up by it.

@@ -15,7 +15,7 @@ mod request;
 mod who;
 
 pub use execution::Execution;
-pub use leave::Leave;
+pub use leave::Authorization;
 pub use opening_rows::OpeningRows;
 pub use release_rows::ReleaseRows;
 pub use reply_kind::ReplyKind;

@@ -40,7 +40,7 @@ impl PolicyRows {
         }
     }
 
-    /// Makes room for so many rows in each list. The rows stay, also where memory is refused.
+    /// Makes room for `count` rows in each list. The rows stay, also where memory is refused.
     pub fn reserve(&mut self, count: usize) -> Result<(), AllocError>
         ensures ok { OnOk result (HasPolicyRoom self.new count) }
         ensures same { policy_of self.new ≡ policy_of self.old }

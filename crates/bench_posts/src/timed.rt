@@ -1,12 +1,12 @@
 //! Serving that is measured: how many messages were answered, and how long that took.
 
 use crate::client::{AtZero, OneUser};
-use counter_api::serve;
+use counter_api::{Asking, Counter, serve};
 use money::Tallied;
 use std::fmt;
 use std::io::BufWriter;
 use std::time::{CpuClock, Duration, Instant};
-use store_rows::{Bank, Store};
+use store_rows::Store;
 
 /// The most messages that are answered.
 const MOST_MESSAGES: u32 = 1_000_000;
@@ -34,21 +34,16 @@ impl fmt::Display for Times {
 /// Serves standard input to standard output over this store, whose replies are gathered as the bank program does. None where a
 /// stream or memory fails, or the clock.
 pub fn serve_timed<S: Store + Drop>(rt: &HostRuntime, store: S) -> Option<Times> {
-    let mut bank = Bank { store };
+    let asking = Asking {
+        gate: OneUser,
+        moments: AtZero,
+    };
+    let mut counter = Counter::new(rt.alloc(), store, asking).ok()?;
     let mut input = Tallied::new(rt.stdin());
     let mut output = Tallied::new(BufWriter::new(rt.alloc(), rt.stdout()).ok()?);
     let start = Instant::now(rt).ok()?;
     let before = rt.process_cpu_time().ok()?;
-    let served = serve(
-        rt.alloc(),
-        &mut input,
-        &mut output,
-        &mut bank,
-        &OneUser,
-        &mut AtZero,
-        MOST_MESSAGES,
-    )
-    .ok()?;
+    let served = serve(&mut counter, &mut input, &mut output, MOST_MESSAGES).ok()?;
     let after = rt.process_cpu_time().ok()?;
     Some(Times {
         messages: served.messages,

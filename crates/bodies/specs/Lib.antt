@@ -9,6 +9,7 @@ pub mod DrawerOff
 pub mod DrawerOn
 pub mod Enrolment
 pub mod ItemSet
+pub mod Laws
 pub mod Member
 pub mod MoveCash
 pub mod Named

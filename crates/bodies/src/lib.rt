@@ -6,6 +6,7 @@
 #![tactic(auto)]
 
 mod commands;
+pub mod laws;
 mod members;
 mod operations;
 

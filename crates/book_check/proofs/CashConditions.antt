@@ -70,25 +70,25 @@ kept_from_given : (w : WorldLists) (b : BranchRecord) → IsBranchOfLines b (bra
 kept_from_given w b of = same_equation _ _ _ _ _ _ _ _ _ (sym of.vault) (sym of.drawers) (sym of.cash_entries) (sym of.differences)
 
 balanced_by_rows : (w : WorldLists) (kept : KeptLists) (branch : ℕ) → IsInRange w kept → BranchesOfCash w kept branch → IsCashBalanced w.branches w.lines branch
-balanced_by_rows w kept branch in_range each row there told =
+balanced_by_rows w kept branch in_range each row there stated =
     let source = source_of (λ (b : BranchRecord). b.row) kept.branches w.branches row in_range.rows.branches there in
     let b = source.0 in
-    let of = each b source.1.0 (ap (λ r. r.branch) source.1.1 ∙ told) in
+    let of = each b source.1.0 (ap (λ r. r.branch) source.1.1 ∙ stated) in
     let P : Branch → Type 0 = λ r. Whole (branch_record_of w r) in
     subst P source.1.1 (given_from_kept w b of.lines (whole_from_cut w b (in_range.branches b source.1.0) of.equation))
 
 pub cash_by_rows : (w : WorldLists) (kept : KeptLists) (branch : ℕ) → IsInRange w kept → RowsOfCash w kept branch → CashAgrees w kept branch
 cash_by_rows w kept branch in_range rows = record {
-  given = record { branches = λ b there told. (rows.0.0 b there told).lines; tellers = rows.0.1 };
+  given = record { branches = λ b there stated. (rows.0.0 b there stated).lines; tellers = rows.0.1 };
   numbers = branches_numbered w kept line_key (λ l. l.branch) (λ l. l.number) (λ _. refl) w.lines branch in_range.rows in_range.keys.lines (lines_named w kept in_range) rows.1;
   equation = balanced_by_rows w kept branch in_range rows.0.0;
 }
 
 branch_by_cash : (w : WorldLists) (kept : KeptLists) (branch : ℕ) → IsInRange w kept → CashAgrees w kept branch → BranchesOfCash w kept branch
-branch_by_cash w kept branch in_range agrees b there told =
-    let of = agrees.given.branches b there told in
+branch_by_cash w kept branch in_range agrees b there stated =
+    let of = agrees.given.branches b there stated in
     let row = made_of (λ (r : BranchRecord). r.row) kept.branches w.branches b in_range.rows.branches there in
-    record { lines = of; equation = cut_from_whole w b (in_range.branches b there) (kept_from_given w b of (agrees.equation b.row row told)) }
+    record { lines = of; equation = cut_from_whole w b (in_range.branches b there) (kept_from_given w b of (agrees.equation b.row row stated)) }
 
 pub rows_by_cash : (w : WorldLists) (kept : KeptLists) (branch : ℕ) → IsInRange w kept → CashAgrees w kept branch → RowsOfCash w kept branch
 rows_by_cash w kept branch in_range agrees = (

@@ -77,14 +77,14 @@ turns_agree w kept branch in_range each account home = record {
         let row = names_account w kept in_range e there in
         let same : row.0.account ≡ account = row.1.1 ∙ is in
         let source = source_of (λ (a : AccountRecord). a.row) kept.accounts w.accounts row.0 in_range.rows.accounts row.1.0 in
-        let told : source.0.row.home ≡ branch = ap (λ a. a.home) source.1.1 ∙ sym (home_found w row.0 in_range.keys.accounts row.1.0) ∙ ap (home_of w.accounts) same ∙ home in
+        let stated : source.0.row.home ≡ branch = ap (λ a. a.home) source.1.1 ∙ sym (home_found w row.0 in_range.keys.accounts row.1.0) ∙ ap (home_of w.accounts) same ∙ home in
         let P : ℕ → Type 0 = λ k. AreNumbered (λ e. e.account) (λ e. e.turn) w.entries k in
-        subst P (ap (λ a. a.account) source.1.1 ∙ same) (each source.0 source.1.0 told)
+        subst P (ap (λ a. a.account) source.1.1 ∙ same) (each source.0 source.1.0 stated)
 
 turns_by_agreement : (w : WorldLists) (kept : KeptLists) (branch : ℕ) → IsInRange w kept → HistoryAgrees w kept branch → TurnsOfHistory w kept branch
-turns_by_agreement w kept branch in_range agrees a there told =
+turns_by_agreement w kept branch in_range agrees a there stated =
     let row = made_of (λ (r : AccountRecord). r.row) kept.accounts w.accounts a in_range.rows.accounts there in
-    agrees.numbered.turns a.row.account (home_found w a.row in_range.keys.accounts row ∙ told)
+    agrees.numbered.turns a.row.account (home_found w a.row in_range.keys.accounts row ∙ stated)
 
 pub agrees_by_rows : (w : WorldLists) (kept : KeptLists) (branch : ℕ) → IsInRange w kept → RowsAgree w kept branch → HistoryAgrees w kept branch
 agrees_by_rows w kept branch in_range rows = record {
@@ -109,23 +109,23 @@ AccountsInTurns kept s balances branch = (a : AccountRecord) → Contains kept.a
 pub turns_by_accounts : (w : WorldLists) (kept : KeptLists) (s : Sums) (balances : List Part) (branch : ℕ) → IsInRange w kept → AreSumsOf w s → IsPermutation (map turn_balance kept.entries) balances →
     AccountsInTurns kept s balances branch → EntriesOfHistory w kept branch × TurnsOfHistory w kept branch
 turns_by_accounts w kept s balances branch in_range sums moved each = (
-  λ e there told.
+  λ e there stated.
       let named = (in_range.entries e there).account in
       let source = source_of (λ (a : AccountRecord). a.row) kept.accounts w.accounts named.0 in_range.rows.accounts named.1.0 in
-      let home : source.0.row.home ≡ branch = ap (λ a. a.home) source.1.1 ∙ sym (home_found w named.0 in_range.keys.accounts named.1.0) ∙ ap (home_of w.accounts) named.1.1 ∙ told in
+      let home : source.0.row.home ≡ branch = ap (λ a. a.home) source.1.1 ∙ sym (home_found w named.0 in_range.keys.accounts named.1.0) ∙ ap (home_of w.accounts) named.1.1 ∙ stated in
       let P : Account → Type 0 = λ a. IsAccountInTurns s.by_turn balances a in
       let judged = subst P source.1.1 (each source.0 source.1.0 home) in
       let part = Contains-permutation (map turn_balance kept.entries) balances (turn_balance e) moved (made_of turn_balance kept.entries (map turn_balance kept.entries) e refl there) in
       sym (amount_in_range e.balance_after (in_range.entries e there).balance_after) ∙ judged.amounts (turn_balance e) part (sym named.1.1)
       ∙ sym (balance_given w s named.0 e.row sums in_range.keys.accounts named.1.0 named.1.1),
-  λ a there told. turns_from_parts w s a.row.account sums (each a there told).turns,
+  λ a there stated. turns_from_parts w s a.row.account sums (each a there stated).turns,
 )
 
 pub accounts_by_turns : (w : WorldLists) (kept : KeptLists) (s : Sums) (balances : List Part) (branch : ℕ) → IsInRange w kept → AreSumsOf w s → IsPermutation (map turn_balance kept.entries) balances →
     EntriesOfHistory w kept branch × TurnsOfHistory w kept branch → AccountsInTurns kept s balances branch
-accounts_by_turns w kept s balances branch in_range sums moved (entries, turns) a there told =
+accounts_by_turns w kept s balances branch in_range sums moved (entries, turns) a there stated =
     record {
-      turns = parts_from_turns w s a.row.account sums (turns a there told);
+      turns = parts_from_turns w s a.row.account sums (turns a there stated);
       amounts = λ p in_balances of.
           let back = IsPermutation-sym (map turn_balance kept.entries) balances moved in
           let source = source_of turn_balance kept.entries (map turn_balance kept.entries) p refl (Contains-permutation balances (map turn_balance kept.entries) p back in_balances) in
@@ -133,6 +133,6 @@ accounts_by_turns w kept s balances branch in_range sums moved (entries, turns) 
           let row = made_of (λ (r : AccountRecord). r.row) kept.accounts w.accounts a in_range.rows.accounts there in
           let same : e.row.account ≡ a.row.account = ap (λ q. q.group) source.1.1 ∙ of in
           sym (ap (λ q. q.amount) source.1.1) ∙ amount_in_range e.balance_after (in_range.entries e source.1.0).balance_after
-          ∙ entries e source.1.0 (ap (home_of w.accounts) same ∙ home_found w a.row in_range.keys.accounts row ∙ told)
+          ∙ entries e source.1.0 (ap (home_of w.accounts) same ∙ home_found w a.row in_range.keys.accounts row ∙ stated)
           ∙ balance_given w s a.row e.row sums in_range.keys.accounts row (sym same) ∙ ap (λ n. a.row.opening +ℤ total_up_to a.row.account n s.by_turn) (ap (λ q. q.number) source.1.1);
     }

@@ -19,15 +19,15 @@ pub by_rows : {T R : Type 0} (holds : T → T → Type 0) (branch_of : T → ℕ
     IsFirstFailing (λ branch. (x : T) → Contains kept x → branch_of x ≡ branch → holds x (record_of (row x))) least
 by_rows {T} holds branch_of row record_of kept computed rows least same given =
     reworded (HoldsOfBranch holds branch_of kept computed (length kept)) (λ branch. (x : T) → Contains kept x → branch_of x ≡ branch → holds x (record_of (row x))) least
-    (λ branch all x in_kept told.
+    (λ branch all x in_kept stated.
     let at : get_or kept in_kept.0 x ≡ x = in_kept.2 in
-    let there = all in_kept.0 x in_kept.1 (ap branch_of at ∙ told) in
+    let there = all in_kept.0 x in_kept.1 (ap branch_of at ∙ stated) in
     let P : T → Type 0 = λ y. holds y (record_of (row y)) in
     let Q : T → Type 0 = λ y. holds (get_or kept in_kept.0 x) y in
     subst P at (subst Q (computed_at row record_of kept computed rows in_kept.0 x same given in_kept.1) there))
-    (λ branch each k d below told.
+    (λ branch each k d below stated.
     let Q : T → Type 0 = λ y. holds (get_or kept k d) y in
-    subst Q (sym (computed_at row record_of kept computed rows k d same given below)) (each (get_or kept k d) (Contains-get_or kept k d below) told))
+    subst Q (sym (computed_at row record_of kept computed rows k d same given below)) (each (get_or kept k d) (Contains-get_or kept k d below) stated))
 
 -- the same of rows that are judged beside themselves
 pub by_themselves : {T : Type 0} (holds : T → Type 0) (branch_of : T → ℕ) (rows : List T) (least : Option ℕ) →
@@ -35,5 +35,5 @@ pub by_themselves : {T : Type 0} (holds : T → Type 0) (branch_of : T → ℕ) 
     IsFirstFailing (λ branch. (x : T) → Contains rows x → branch_of x ≡ branch → holds x) least
 by_themselves {T} holds branch_of rows least =
     reworded (HoldsOfBranch (λ x y. holds x) branch_of rows rows (length rows)) (λ branch. (x : T) → Contains rows x → branch_of x ≡ branch → holds x) least
-    (λ branch all x in_rows told. subst holds in_rows.2 (all in_rows.0 x in_rows.1 (ap branch_of in_rows.2 ∙ told)))
-    (λ branch each k d below told. each (get_or rows k d) (Contains-get_or rows k d below) told)
+    (λ branch all x in_rows stated. subst holds in_rows.2 (all in_rows.0 x in_rows.1 (ap branch_of in_rows.2 ∙ stated)))
+    (λ branch each k d below stated. each (get_or rows k d) (Contains-get_or rows k d below) stated)

@@ -156,10 +156,10 @@ sum_more deltas i opening before d below is =
 pub walk_more : (deltas balances : List Part) (i : ℕ) (opening before : ℤ) (d : Part) → i < length deltas → i < length balances → before ≡ opening +ℤ total (map (λ p. p.amount) (take i deltas)) →
     (get_or balances i d).amount ≡ before +ℤ (get_or deltas i d).amount → ((k : ℕ) (e : Part) → k < i → (get_or balances k e).amount ≡ opening +ℤ total (map (λ p. p.amount) (take (k + 1) deltas))) →
     (k : ℕ) (e : Part) → k < i + 1 → (get_or balances k e).amount ≡ opening +ℤ total (map (λ p. p.amount) (take (k + 1) deltas))
-walk_more deltas balances i opening before d below within is told earlier k e less = elim (cases_lt k i) [
+walk_more deltas balances i opening before d below within is stated earlier k e less = elim (cases_lt k i) [
   | inl front ↦ earlier k e front
   | inr last ↦
       let here : i ≡ k = omega arith in
       let P : ℕ → Type 0 = λ j. (get_or balances j e).amount ≡ opening +ℤ total (map (λ p. p.amount) (take (j + 1) deltas)) in
-      subst P here (ap (λ p. p.amount) (get_or_default balances i e d within) ∙ told ∙ sum_more deltas i opening before d below is)
+      subst P here (ap (λ p. p.amount) (get_or_default balances i e d within) ∙ stated ∙ sum_more deltas i opening before d below is)
 ]

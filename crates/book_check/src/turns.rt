@@ -59,11 +59,11 @@ fn are_balances_after(opening: i64, deltas: &[Part], balances: &[Part]) -> bool
 }
 
 /// The balance kept after a delta, where it is the sum of the one before and the delta.
-fn balance_after(before: i64, delta: &Part, told: &Part) -> Option<i64>
-    ensures sum { IsSome result ↔ (told.now.amount ≡ before +ℤ delta.now.amount) }
-    ensures value { IfSome result (λ after. after ≡ told.now.amount) }
+fn balance_after(before: i64, delta: &Part, stated: &Part) -> Option<i64>
+    ensures sum { IsSome result ↔ (stated.now.amount ≡ before +ℤ delta.now.amount) }
+    ensures value { IfSome result (λ after. after ≡ stated.now.amount) }
 {
-    let after = told.amount;
+    let after = stated.amount;
     if i128::from(before) + i128::from(delta.amount) == i128::from(after) {
         Some(after)
     } else {

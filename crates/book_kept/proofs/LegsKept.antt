@@ -58,6 +58,6 @@ legs_keep w e f source target t b left after can legs of kept entered after_kept
     record { keepable = second.keepable; sheets = second.sheets ∙ ap (entry_sheets after) first.sheets ∙ once }
 
 -- after the first entry the second comes next
-pub next_behind : (e f : Entry) (source target : AccountRecord) (t : KeptTeller) (b : BranchRecord) (left : EntryRows) → AreNextLegs e f source target t b → AreEntered e source t b left → IsNextOf f target left.teller left.branch
-next_behind e f source target t b left next entered =
+pub next_after : (e f : Entry) (source target : AccountRecord) (t : KeptTeller) (b : BranchRecord) (left : EntryRows) → AreNextLegs e f source target t b → AreEntered e source t b left → IsNextOf f target left.teller left.branch
+next_after e f source target t b left next entered =
     subst (λ r. IsNextOf f target r left.branch) (sym entered.teller) (subst (IsNextOf f target (kept_teller_entered e.delta t)) (sym entered.branch) next.second)

@@ -12,5 +12,5 @@ pub mod PostingKept
 pub mod ReleaseKept
 pub mod Rising
 pub mod RowLemmas
-pub mod SheetsTell
+pub mod SheetsDetermine
 pub mod SlipKept

@@ -96,15 +96,15 @@ holder_moves w l x can there at of next = by l.form refl
     old : (f : LineForm) → l.form ≡ f → is_turnover f ≡ false → unwrap_or (holder_of (add_row line_key l w.lines) x.teller) 0 ≡ unwrap_or (holder_of w.lines x.teller) 0
     old f is stays = ap (λ o. unwrap_or o 0) (holder_stays w l x.teller (here f is ∙ stays))
 
-    told : (f : LineForm) → l.form ≡ f → kept_holder l f (unwrap_or (holder_of w.lines x.teller) 0) ≡ kept_holder l l.form (unwrap_or (holder_of w.lines x.teller) 0)
-    told f is = ap (λ g. kept_holder l g (unwrap_or (holder_of w.lines x.teller) 0)) (sym is)
+    stated : (f : LineForm) → l.form ≡ f → kept_holder l f (unwrap_or (holder_of w.lines x.teller) 0) ≡ kept_holder l l.form (unwrap_or (holder_of w.lines x.teller) 0)
+    stated f is = ap (λ g. kept_holder l g (unwrap_or (holder_of w.lines x.teller) 0)) (sym is)
 
     by : (f : LineForm) → l.form ≡ f → unwrap_or (holder_of (add_row line_key l w.lines) x.teller) 0 ≡ kept_holder l l.form (unwrap_or (holder_of w.lines x.teller) 0)
-    by form.CashEntry is = old form.CashEntry is refl ∙ told form.CashEntry is
-    by form.On is = new form.On is refl ∙ told form.On is
-    by form.Off is = new form.Off is refl ∙ told form.Off is
-    by form.Move is = old form.Move is refl ∙ told form.Move is
-    by form.Difference is = old form.Difference is refl ∙ told form.Difference is
+    by form.CashEntry is = old form.CashEntry is refl ∙ stated form.CashEntry is
+    by form.On is = new form.On is refl ∙ stated form.On is
+    by form.Off is = new form.Off is refl ∙ stated form.Off is
+    by form.Move is = old form.Move is refl ∙ stated form.Move is
+    by form.Difference is = old form.Difference is refl ∙ stated form.Difference is
 
 at_drawer : (w : WorldLists) (l : CashLine) (x : Teller) → IsKeepable w → Contains w.tellers x → x.teller ≡ l.place → x.branch ≡ l.branch → l.number ≡ line_count l.branch w.lines + 1
     → kept_teller_of (written (write.Line l) w) x ≡ kept_teller_lined l (kept_teller_of w x)

@@ -68,7 +68,7 @@ pub each_placed : (set first : ℕ) (members : List Member) (m : MemberRow) → 
 each_placed set first [] m there = absurd (none_there there)
 each_placed set first (x ∷ members) m there = elim (Contains-cons_cases (member_row set (first, x)) (placed_from set (first + 1) members) m there) [
   | inl is ↦ subst (IsPlaced set first (x ∷ members)) is (record { of = refl; low = omega arith; high = omega arith })
-  | inr behind ↦ by (each_placed set (first + 1) members m behind)
+  | inr following ↦ by (each_placed set (first + 1) members m following)
 ]
   where
     by : IsPlaced set (first + 1) members m → IsPlaced set first (x ∷ members) m
@@ -109,7 +109,7 @@ pub member_source : (sets : List SetRow) (m : MemberRow) → Contains (flat_map 
 member_source [] m there = absurd (none_there there)
 member_source (s ∷ sets) m there = elim (Contains-append_cases (member_rows s) (flat_map member_rows sets) m there) [
   | inl here ↦ (s, (Contains-head s sets, here))
-  | inr behind ↦ later (member_source sets m behind)
+  | inr following ↦ later (member_source sets m following)
 ]
   where
     later : (z : SetRow) × (Contains sets z × Contains (member_rows z) m) → (z : SetRow) × (Contains (s ∷ sets) z × Contains (member_rows z) m)

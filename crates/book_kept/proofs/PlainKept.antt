@@ -18,7 +18,7 @@ use Rattle.book_laws.proofs.ChangedRows.{HasRow-changed, count-changed, each_cha
 use Rattle.keyed_rows.proofs.Rows.{found_row, map-map}
 use Rattle.book_kept.proofs.RowLemmas.{IsOrdered-add_row, IsOrdered-changed, find-map, map-change_rows, map_same, source}
 use Rattle.book_kept.specs.Keepable.{AreReleasesKeepable, AreSlipsKeepable}
-use Rattle.book_kept.specs.Laws.{DayIsKept, ProofIsKept, RowsAreTold, SessionIsKept, UsedIsKept, VersionIsKept}
+use Rattle.book_kept.specs.Laws.{DayIsKept, ProofIsKept, RowsDetermineAnswers, SessionIsKept, UsedIsKept, VersionIsKept}
 use Rattle.book_kept.specs.Records.{kept_teller, kept_teller_of, kept_user_of, slip_count_of}
 use Rattle.book_kept.specs.Sheets.{account_no, branch_no, sheets_of, teller_no, user_no}
 use Rattle.bank_books.specs.SlipRow.{SlipRow}
@@ -176,8 +176,8 @@ version_is_kept w false can = record { keepable = can; sheets = refl }
 
 -- ---- rows by key
 
-pub rows_are_told : RowsAreTold
-rows_are_told w key can = record {
+pub rows_determine_answers : RowsDetermineAnswers
+rows_determine_answers w key can = record {
   account = find-map (λ r. account_no r == key) (account_record_of w) w.accounts;
   teller = find-map (λ r. teller_no r == key) (kept_teller_of w) w.tellers ∙ twice (find (λ r. r.teller == key) w.tellers);
   holder = λ t is.

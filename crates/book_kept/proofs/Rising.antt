@@ -60,6 +60,6 @@ IsOrdered-map key shown f same xs was = IsOrdered-from_rising shown (map f xs) (
 pub Rises-append : {X : Type 0} (key : X → ℕ) (xs ys : List X) → Rises key xs → Rises key ys → ((x : X) → Contains xs x → (y : X) → Contains ys y → key x < key y) → Rises key (xs ++ ys)
 Rises-append key [] ys first second apart = second
 Rises-append {X} key (x ∷ xs) ys first second apart = (
-  λ y there. elim (Contains-append_cases xs ys y there) [ inl here ↦ first.0 y here | inr behind ↦ apart x (Contains-head x xs) y behind ],
+  λ y there. elim (Contains-append_cases xs ys y there) [ inl here ↦ first.0 y here | inr following ↦ apart x (Contains-head x xs) y following ],
   Rises-append key xs ys first.1 second (λ z there. apart z (Contains-tail x xs z there)),
 )

@@ -78,16 +78,16 @@ abbrev pub SheetsAreOrdered : Type 0
 SheetsAreOrdered = (w : WorldLists) → IsKeepable w → AreSheetsOrdered (sheets_of w)
 
 -- Two Worlds of the same rows and numbers are one.
-abbrev pub SheetsTellWorld : Type 0
-SheetsTellWorld = (v w : WorldLists) → IsKeepable v → IsKeepable w → sheets_of v ≡ sheets_of w → v ≡ w
+abbrev pub SheetsDetermineWorld : Type 0
+SheetsDetermineWorld = (v w : WorldLists) → IsKeepable v → IsKeepable w → sheets_of v ≡ sheets_of w → v ≡ w
 
 -- the row of a key is what the World answers of that key, and user 0 holds no drawer
-pub record AreRowsTold (w : WorldLists) (key : ℕ) : Type 0 where
+pub record AreRowsDetermined (w : WorldLists) (key : ℕ) : Type 0 where
   pub account : find (λ r. account_no r == key) (sheets_of w).accounts ≡ account_record w key
   pub teller : find (λ r. teller_no r == key) (sheets_of w).tellers ≡ option_map kept_teller (teller_record w key)
   pub holder : (t : TellerRecord) → teller_record w key ≡ Some t → t.holder ≢ Some 0
   pub branch : find (λ r. branch_no r == key) (sheets_of w).branches ≡ branch_record w key
   pub user : find (λ r. user_no r == key) (sheets_of w).users ≡ option_map (kept_user_of w) (user_row w.policy key)
 
-abbrev pub RowsAreTold : Type 0
-RowsAreTold = (w : WorldLists) (key : ℕ) → IsKeepable w → AreRowsTold w key
+abbrev pub RowsDetermineAnswers : Type 0
+RowsDetermineAnswers = (w : WorldLists) (key : ℕ) → IsKeepable w → AreRowsDetermined w key

@@ -49,13 +49,13 @@ pub record AreOfLine (s : Sheets) (l : CashLine) (t : KeptTeller) (b : BranchRec
   pub teller : IsTellerRow s l.place t
   pub branch : IsBranchRow s l.branch b
 
--- so many releases are kept of that user
+-- n releases are kept of that user
 pub record HasReleases (s : Sheets) (user releases : ℕ) : Type 0 where
   pub row : KeptUser
   pub found : IsUserRow s user row
   pub count : row.releases ≡ releases
 
--- so many slips are kept of that user
+-- n slips are kept of that user
 pub record HasSlips (s : Sheets) (user slips : ℕ) : Type 0 where
   pub row : SlipCount
   pub found : find (λ c. slip_no c == user) s.slip_counts ≡ Some row

@@ -11,12 +11,12 @@ use Rattle.book_kept.specs.Records.{kept_teller_entered}
 use Rattle.book_kept.specs.declared.records.KeptTeller.{KeptTeller}
 
 -- what the entries of a branch come to is within the limits
-pub record IsHistoryTold (b : BranchRecord) : Type 0 where
+pub record IsHistoryDetermined (b : BranchRecord) : Type 0 where
   pub balance : IsCents b.balance
   pub history : IsCents b.history
 
 -- what the lines of a branch come to is
-pub record IsCashTold (b : BranchRecord) : Type 0 where
+pub record IsCashDetermined (b : BranchRecord) : Type 0 where
   pub vault : IsCents b.vault
   pub drawers : IsCents b.drawers
   pub cash_entries : IsCents b.cash_entries
@@ -28,13 +28,13 @@ pub record IsNextOf (e : Entry) (a : AccountRecord) (t : KeptTeller) (b : Branch
   pub number : e.number ≡ b.entries + 1
   pub account : IsCents a.balance
   pub teller : IsCents t.balance
-  pub branch : IsHistoryTold b
+  pub branch : IsHistoryDetermined b
 
 -- a line at the vault, of the next number of its branch
 pub record IsNextAtVault (l : CashLine) (b : BranchRecord) : Type 0 where
   pub place : l.place ≡ 0
   pub number : l.number ≡ b.lines + 1
-  pub cash : IsCashTold b
+  pub cash : IsCashDetermined b
 
 -- a line at the drawer of a teller of its branch, of the next number of that; who puts the drawer on is not user 0
 pub record IsNextAtDrawer (l : CashLine) (t : KeptTeller) (b : BranchRecord) : Type 0 where
@@ -42,7 +42,7 @@ pub record IsNextAtDrawer (l : CashLine) (t : KeptTeller) (b : BranchRecord) : T
   pub holder : holder_after l l.form ≢ Some 0
   pub number : l.number ≡ b.lines + 1
   pub drawer : IsCents t.cash
-  pub cash : IsCashTold b
+  pub cash : IsCashDetermined b
 
 -- two entries, the second of which comes next after the first
 pub record AreNextLegs (e f : Entry) (source target : AccountRecord) (t : KeptTeller) (b : BranchRecord) : Type 0 where

@@ -21,7 +21,7 @@ pub struct AccountRows {
 pub fn with_account(home: &BranchRecord, account: &Account) -> Option<AccountRows>
     ensures kept { IfSome result (λ rows. AreAfterAccount account.now home.now rows) }
     ensures begun { IfSome result (λ rows. rows.account ≡ account_begun account.now) }
-    ensures told { home.now.accounts + 1 < 2 ^ 64 → IsSome result }
+    ensures stated { home.now.accounts + 1 < 2 ^ 64 → IsSome result }
 {
     let home = home_moved(home)?;
     let account = account_begun(account);
@@ -30,7 +30,7 @@ pub fn with_account(home: &BranchRecord, account: &Account) -> Option<AccountRow
 
 fn home_moved(home: &BranchRecord) -> Option<BranchRecord>
     ensures moved { IfSome result (λ b. b ≡ branch_homed home.now) }
-    ensures told { home.now.accounts + 1 < 2 ^ 64 → IsSome result }
+    ensures stated { home.now.accounts + 1 < 2 ^ 64 → IsSome result }
 {
     let mut moved = *home;
     moved.accounts = home.accounts.checked_add(1)?;

@@ -4,7 +4,7 @@ ghost use Rattle.std.specs.Prelude.{◌≡◌, ◌+◌, ◌<◌, ◌^◌, IfSome
 ghost use Rattle.money.specs.Range.{IsCents};
 ghost use Rattle.book_laws.specs.Moves.{account_entered, branch_entered};
 ghost use Rattle.book_kept.specs.After.{AreAfterEntry, AreEntered};
-ghost use Rattle.book_kept.specs.Next.{IsHistoryTold, IsNextOf};
+ghost use Rattle.book_kept.specs.Next.{IsHistoryDetermined, IsNextOf};
 ghost use Rattle.book_kept.specs.Records.{entry_left, kept_teller_entered};
 
 use crate::records::KeptTeller;
@@ -33,7 +33,7 @@ pub fn with_entry(
 ) -> Option<EntryRows>
     ensures kept { IfSome result (λ rows. AreAfterEntry entry.now account.now teller.now branch.now rows) }
     ensures moved { IfSome result (λ rows. AreEntered entry.now account.now teller.now branch.now rows) }
-    ensures told { IsNextOf entry.now account.now teller.now branch.now → IsSome result }
+    ensures stated { IsNextOf entry.now account.now teller.now branch.now → IsSome result }
 {
     let account = account_moved(account, entry)?;
     let teller = teller_moved(teller, entry)?;
@@ -59,7 +59,7 @@ fn entry_left(after: &AccountRecord, entry: &Entry) -> EntryRecord
 fn account_moved(account: &AccountRecord, entry: &Entry) -> Option<AccountRecord>
     ensures moved { IfSome result (λ a. a ≡ account_entered entry.now.delta account.now) }
     ensures next { IfSome result (λ a. entry.now.turn ≡ a.turns) }
-    ensures told { IsCents account.now.balance → entry.now.turn ≡ account.now.turns + 1 → IsSome result }
+    ensures stated { IsCents account.now.balance → entry.now.turn ≡ account.now.turns + 1 → IsSome result }
 {
     let turn = entry.turn as u64;
     let mut moved = *account;
@@ -74,7 +74,7 @@ fn account_moved(account: &AccountRecord, entry: &Entry) -> Option<AccountRecord
 
 fn teller_moved(teller: &KeptTeller, entry: &Entry) -> Option<KeptTeller>
     ensures moved { IfSome result (λ t. t ≡ kept_teller_entered entry.now.delta teller.now) }
-    ensures told { IsCents teller.now.balance → IsSome result }
+    ensures stated { IsCents teller.now.balance → IsSome result }
 {
     let mut moved = *teller;
     moved.balance = teller.balance.checked_add(entry.delta.get() as i128)?;
@@ -84,7 +84,7 @@ fn teller_moved(teller: &KeptTeller, entry: &Entry) -> Option<KeptTeller>
 fn branch_moved(branch: &BranchRecord, entry: &Entry) -> Option<BranchRecord>
     ensures moved { IfSome result (λ b. b ≡ branch_entered entry.now.delta branch.now) }
     ensures next { IfSome result (λ b. (entry.now.number ≡ b.entries) × (entry.now.number < 2 ^ 32)) }
-    ensures told { IsHistoryTold branch.now → entry.now.number ≡ branch.now.entries + 1 → IsSome result }
+    ensures stated { IsHistoryDetermined branch.now → entry.now.number ≡ branch.now.entries + 1 → IsSome result }
 {
     let number = entry.number as u64;
     let mut moved = *branch;

@@ -3,7 +3,7 @@
 
 ghost use Rattle.bank_books.specs.Books.{Books};
 ghost use Rattle.book_kept.specs.Keepable.{HasDistinctRows, IsKeepable};
-ghost use Rattle.book_kept.specs.Laws.{DayIsKept, PolicyIsKept, ProofIsKept, RowsAreTold, SessionIsKept, SlipIsKept, SheetsAreOrdered, SheetsTellWorld, UsedIsKept, VersionIsKept};
+ghost use Rattle.book_kept.specs.Laws.{DayIsKept, PolicyIsKept, ProofIsKept, RowsDetermineAnswers, SessionIsKept, SlipIsKept, SheetsAreOrdered, SheetsDetermineWorld, UsedIsKept, VersionIsKept};
 
 use bank_books::World;
 
@@ -69,11 +69,11 @@ pub fn sheets_are_ordered()
 {}
 
 /// The rows and the numbers beside them determine the World.
-pub fn sheets_tell_world()
-    ensures { SheetsTellWorld }
+pub fn sheets_determine_world()
+    ensures { SheetsDetermineWorld }
 {}
 
 /// The row of a key, with its numbers, is what the World answers of that key.
-pub fn rows_are_told()
-    ensures { RowsAreTold }
+pub fn rows_determine_answers()
+    ensures { RowsDetermineAnswers }
 {}

@@ -36,7 +36,7 @@ pub fn with_legs(
     second: &Entry,
 ) -> Option<LegRows>
     ensures kept { IfSome result (λ rows. AreAfterLegs first.now second.now source.now target.now teller.now branch.now rows) }
-    ensures told { AreNextLegs first.now second.now source.now target.now teller.now branch.now → IsSome result }
+    ensures stated { AreNextLegs first.now second.now source.now target.now teller.now branch.now → IsSome result }
 {
     let left = with_entry(source, teller, branch, first)?;
     let after = with_entry(target, &left.teller, &left.branch, second)?;

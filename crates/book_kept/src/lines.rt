@@ -5,7 +5,7 @@ ghost use Rattle.money.specs.Range.{IsCents};
 ghost use Rattle.bank_books.specs.Cash.{holder_after};
 ghost use Rattle.book_laws.specs.Moves.{branch_lined};
 ghost use Rattle.book_kept.specs.After.{AreAfterLine, AreLined, IsAfterVaultLine};
-ghost use Rattle.book_kept.specs.Next.{IsCashTold, IsNextAtDrawer, IsNextAtVault};
+ghost use Rattle.book_kept.specs.Next.{IsCashDetermined, IsNextAtDrawer, IsNextAtVault};
 ghost use Rattle.book_kept.specs.Records.{kept_teller_lined};
 
 use crate::records::KeptTeller;
@@ -30,7 +30,7 @@ pub fn with_drawer_line(
 ) -> Option<LineRows>
     ensures kept { IfSome result (λ rows. AreAfterLine line.now teller.now branch.now rows) }
     ensures moved { IfSome result (λ rows. AreLined line.now teller.now branch.now rows) }
-    ensures told { IsNextAtDrawer line.now teller.now branch.now → IsSome result }
+    ensures stated { IsNextAtDrawer line.now teller.now branch.now → IsSome result }
 {
     let branch = branch_moved(branch, line)?;
     if teller.row.branch != line.branch || is_held_by_nobody(line) {
@@ -45,7 +45,7 @@ pub fn with_drawer_line(
 pub fn with_vault_line(branch: &BranchRecord, line: &CashLine) -> Option<BranchRecord>
     ensures kept { IfSome result (λ after. IsAfterVaultLine line.now branch.now after) }
     ensures moved { IfSome result (λ after. after ≡ branch_lined line.now branch.now) }
-    ensures told { IsNextAtVault line.now branch.now → IsSome result }
+    ensures stated { IsNextAtVault line.now branch.now → IsSome result }
 {
     if line.place == 0 {
         branch_moved(branch, line)
@@ -66,7 +66,7 @@ fn is_held_by_nobody(line: &CashLine) -> bool
 
 fn teller_moved(teller: &KeptTeller, line: &CashLine) -> Option<KeptTeller>
     ensures moved { IfSome result (λ t. t ≡ kept_teller_lined line.now teller.now) }
-    ensures told { IsCents teller.now.cash → IsSome result }
+    ensures stated { IsCents teller.now.cash → IsSome result }
 {
     let mut moved = *teller;
     moved.cash = teller.cash.checked_add(line.amount.get() as i128)?;
@@ -81,7 +81,7 @@ fn teller_moved(teller: &KeptTeller, line: &CashLine) -> Option<KeptTeller>
 fn branch_moved(branch: &BranchRecord, line: &CashLine) -> Option<BranchRecord>
     ensures moved { IfSome result (λ b. b ≡ branch_lined line.now branch.now) }
     ensures next { IfSome result (λ b. (line.now.number ≡ b.lines) × (line.now.number < 2 ^ 32)) }
-    ensures told { IsCashTold branch.now → line.now.number ≡ branch.now.lines + 1 → IsSome result }
+    ensures stated { IsCashDetermined branch.now → line.now.number ≡ branch.now.lines + 1 → IsSome result }
 {
     let number = line.number as u64;
     let at_vault = line.place == 0;
@@ -101,7 +101,7 @@ fn branch_moved(branch: &BranchRecord, line: &CashLine) -> Option<BranchRecord>
 /// A sum, with the amount of the line added where `counts` is true.
 fn with_share(sum: &i128, line: &CashLine, counts: bool) -> Option<i128>
     ensures value { IfSome result (λ after. after ≡ sum.now +ℤ (if counts then line.now.amount else pos 0)) }
-    ensures told { IsCents sum.now → IsSome result }
+    ensures stated { IsCents sum.now → IsSome result }
 {
     let amount = line.amount.get() as i128;
     sum.checked_add(if counts { amount } else { 0 })

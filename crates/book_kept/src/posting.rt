@@ -20,7 +20,7 @@ pub fn with_posting(
     line: &CashLine,
 ) -> Option<EntryRows>
     ensures kept { IfSome result (λ rows. AreAfterPosting entry.now line.now account.now teller.now branch.now rows) }
-    ensures told { IsNextPosting entry.now line.now account.now teller.now branch.now → IsSome result }
+    ensures stated { IsNextPosting entry.now line.now account.now teller.now branch.now → IsSome result }
 {
     if line.place != entry.teller || line.branch != entry.branch {
         return None;

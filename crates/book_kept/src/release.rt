@@ -9,7 +9,7 @@ use bank_books::Release;
 /// number of that user.
 pub fn with_release(releases: u64, release: &Release) -> Option<u64>
     ensures kept { IfSome result (λ after. IsAfterRelease release.now releases after) }
-    ensures told { release.now.number ≡ releases + 1 → IsSome result }
+    ensures stated { release.now.number ≡ releases + 1 → IsSome result }
 {
     let number = release.number as u64;
     let after = releases.checked_add(1)?;

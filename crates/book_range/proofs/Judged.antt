@@ -15,9 +15,9 @@ judged P (x ∷ xs) false (k, below, fails) = (
 )
 
 -- the same of rows that equal those that were judged
-pub told : {X : Type 0} (P : X → Type 0) (seen xs : List X) (r : Bool) → seen ≡ xs → (IsTrue r → (x : X) → Contains seen x → P x) × (((x : X) → Contains seen x → P x) → IsTrue r) →
+pub stated : {X : Type 0} (P : X → Type 0) (seen xs : List X) (r : Bool) → seen ≡ xs → (IsTrue r → (x : X) → Contains seen x → P x) × (((x : X) → Contains seen x → P x) → IsTrue r) →
     (IsTrue r → (x : X) → Contains xs x → P x) × (((x : X) → Contains xs x → P x) → IsTrue r)
-told {X} P seen xs r same says =
+stated {X} P seen xs r same says =
     let Q : List X → Type 0 = λ ys. (IsTrue r → (x : X) → Contains ys x → P x) × (((x : X) → Contains ys x → P x) → IsTrue r) in
     subst Q same says
 

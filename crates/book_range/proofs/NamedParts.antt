@@ -13,10 +13,10 @@ same_as_before P xs i before this some below same all =
     AllWithin-more P xs 0 i all (at_read xs P i (get_or xs i this) below (get_or_default xs i this (get_or xs i this) below) (same (all (i - 1) before (omega arith) (omega (arith, some)))))
 
 -- what is judged of the parts of rows, in any order, is judged of the rows
-pub told_of_rows : {X Y : Type 0} (P : Y → Type 0) (part : X → Y) (rows : List X) (parts : List Y) (r : Bool) → IsPermutation (map part rows) parts →
+pub test_of_rows : {X Y : Type 0} (P : Y → Type 0) (part : X → Y) (rows : List X) (parts : List Y) (r : Bool) → IsPermutation (map part rows) parts →
     (IsTrue r → (y : Y) → Contains parts y → P y) × (((y : Y) → Contains parts y → P y) → IsTrue r) →
     (IsTrue r → (x : X) → Contains rows x → P (part x)) × (((x : X) → Contains rows x → P (part x)) → IsTrue r)
-told_of_rows P part rows parts r moved says = (
+test_of_rows P part rows parts r moved says = (
   λ is x there. says.0 is (part x) (Contains-permutation (map part rows) parts (part x) moved (made_of part rows (map part rows) x refl there)),
   λ all. says.1
       (λ y there.

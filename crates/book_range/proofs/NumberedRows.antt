@@ -58,17 +58,17 @@ branches_numbered {X} w kept key group number made rows branch of_rows distinct 
     here x there is =
         let row = (named x there).0 in
         let source = source_of (λ (b : BranchRecord). b.row) kept.branches w.branches row.0 of_rows.branches row.1.0 in
-        let told : source.0.row.branch ≡ branch = ap (λ b. b.branch) source.1.1 ∙ row.1.1 ∙ is in
-        let bear = each source.0 source.1.0 told in
+        let stated : source.0.row.branch ≡ branch = ap (λ b. b.branch) source.1.1 ∙ row.1.1 ∙ is in
+        let bear = each source.0 source.1.0 stated in
         let P : ℕ → Type 0 = λ b. BearNumbers number (rows_of_group key b rows) in
         numbered group number rows (rows_of_group key branch rows) branch (group_rows key group number made rows branch (λ y in_rows. (named y in_rows).1))
-        (λ n. once key group number made rows branch n distinct) (subst P told bear)
+        (λ n. once key group number made rows branch n distinct) (subst P stated bear)
 
 pub branches_from_numbered : {X : Type 0} (w : WorldLists) (kept : KeptLists) (key group number : X → ℕ) → ((x : X) → key x ≡ 2 ^ 32 * group x + number x) → (rows : List X) (branch : ℕ) →
     AreNamed w group number rows → AreNumbered group number rows branch → BranchesBearNumbers key number rows kept branch
-branches_from_numbered {X} w kept key group number made rows branch named is b there told =
+branches_from_numbered {X} w kept key group number made rows branch named is b there stated =
     let P : ℕ → Type 0 = λ k. BearNumbers number (rows_of_group key k rows) in
-    subst P (sym told)
+    subst P (sym stated)
     (from_numbered group number rows (rows_of_group key branch rows) branch (group_rows key group number made rows branch (λ y in_rows. (named y in_rows).1)) is)
 
 -- what is asked of each release by itself

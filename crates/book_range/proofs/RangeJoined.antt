@@ -10,7 +10,7 @@ use Rattle.bank_books.specs.declared.rows.CashLine.{CashLine}
 use Rattle.bank_books.specs.declared.rows.Entry.{Entry}
 use Rattle.bank_books.specs.declared.rows.Release.{Release}
 use Rattle.book_sums.proofs.Counting.{made_of, source_of}
-use Rattle.book_range.proofs.Judged.{told}
+use Rattle.book_range.proofs.Judged.{stated}
 
 pub range_from_parts : (w : WorldLists) (kept : KeptLists) → AreOfRows w kept → HasDistinctKeys w → AreAllInRange w kept → IsInRange w kept
 range_from_parts w kept rows keys parts = record {
@@ -86,9 +86,9 @@ pub line_joined : (w : WorldLists) (l : CashLine) → IsLineNamed w l → IsLine
 line_joined w l names limits = record { branch = names.branch; number = limits.number; place = names.place; moment = limits.moment; day = limits.day; user = limits.user }
 
 -- the releases, each by itself
-pub releases_told : (w : WorldLists) (seen : List Release) (r : Bool) → seen ≡ w.releases →
+pub releases_stated : (w : WorldLists) (seen : List Release) (r : Bool) → seen ≡ w.releases →
     (IsTrue r → (x : Release) → Contains seen x → IsReleaseAlone w.branches w.policy.users x) × (((x : Release) → Contains seen x → IsReleaseAlone w.branches w.policy.users x) → IsTrue r) →
     (IsTrue r → AreReleasesAlone w) × (AreReleasesAlone w → IsTrue r)
-releases_told w seen r same says =
-    let each = told (IsReleaseAlone w.branches w.policy.users) seen w.releases r same says in
+releases_stated w seen r same says =
+    let each = stated (IsReleaseAlone w.branches w.policy.users) seen w.releases r same says in
     (λ is. record { each = each.0 is }, λ all. each.1 all.each)

@@ -213,7 +213,7 @@ fn end_at(parts: &[Part], key: u64) -> usize
 }
 
 /// The same, which is found at once where the guess is right: a group that is numbered 1, 2, 3 and
-/// so on has so many parts up to a number.
+/// so on has as many parts up to a number as the number says.
 fn end_near(parts: &[Part], guess: u64, key: u64) -> usize
     requires { IsNonDecreasingBy part_key parts.now }
     ensures bound { result ≤ length parts.now }

@@ -31,8 +31,8 @@ use Rattle.certify.specs.Laws.{CommandKeepsSeparation}
 
 -- ---- what follows from the tests
 
-certifier_told : (p : PolicyLists) (user : ℕ) (procedure : Procedure) → is_certifier p user procedure ≡ true → IsCertifier p user procedure
-certifier_told p user procedure is =
+certifier_of_test : (p : PolicyLists) (user : ℕ) (procedure : Procedure) → is_certifier p user procedure ≡ true → IsCertifier p user procedure
+certifier_of_test p user procedure is =
     let row = some_passes (λ r. r.user == user && number_of r.procedure == number_of procedure) p.certifiers is in
     let tests = and_parts (row.0.user == user) (number_of row.0.procedure == number_of procedure) row.1.1 in
     any_of (λ r. (r.user ≡ user) × (r.procedure ≡ procedure)) p.certifiers row.0 row.1.0 (eqb-true _ _ tests.0, one_procedure row.0.procedure procedure (eqb-true _ _ tests.1))
@@ -79,7 +79,7 @@ certified : (p : PolicyLists) (by : ℕ) (k : RelationKey) → Separated p → I
     → Separated (policy_written (change_of (asked.Certify k) by) p)
 certified p by k was passes =
     let row : Relation = record { procedure = k.procedure; set = k.set; by = by } in
-    let may : IsCertifier p by k.procedure = certifier_told p by k.procedure (not_false _ passes.certifier) in
+    let may : IsCertifier p by k.procedure = certifier_of_test p by k.procedure (not_false _ passes.certifier) in
     record {
       officers = λ user (officer, holds). elim holds [
         | inl triple ↦ was.officers user (officer, inl triple)

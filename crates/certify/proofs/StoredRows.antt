@@ -99,22 +99,22 @@ certifies_some policy user = some_procedure user policy.certifiers
 
 -- ---- the rows of each command are those of the policy
 
-pub certify_told : (policy : PolicyLists) (by : ℕ) (k : RelationKey) →
+pub certify_stated : (policy : PolicyLists) (by : ℕ) (k : RelationKey) →
     certify_rows (is_certifier policy by k.procedure) (has_set policy k.set) (relations_of policy k.procedure) k ≡ command_rows policy by (asked.Certify k)
-certify_told policy by k =
+certify_stated policy by k =
     let rows : Bool → ℕ → CommandRows = λ there n. record (of_certifier (is_certifier policy by k.procedure)) { has_set = has_set policy k.set; is_there = there; count = n } in
     ap (λ there. rows there (length (relations_of policy k.procedure))) (relation_among policy k.procedure k.set)
     ∙ ap (rows (has_relation policy k.procedure k.set)) (relation_count policy k.procedure)
 
-pub withdraw_told : (policy : PolicyLists) (by : ℕ) (k : RelationKey) →
+pub withdraw_stated : (policy : PolicyLists) (by : ℕ) (k : RelationKey) →
     withdraw_rows (is_certifier policy by k.procedure) (relations_of policy k.procedure) k ≡ command_rows policy by (asked.Withdraw k)
-withdraw_told policy by k = ap (λ there. record (of_certifier (is_certifier policy by k.procedure)) { is_there = there }) (relation_among policy k.procedure k.set)
+withdraw_stated policy by k = ap (λ there. record (of_certifier (is_certifier policy by k.procedure)) { is_there = there }) (relation_among policy k.procedure k.set)
 
-pub grant_told : (policy : PolicyLists) (by : ℕ) (t : Triple) →
+pub grant_stated : (policy : PolicyLists) (by : ℕ) (t : Triple) →
     grant_rows (is_certifier policy by t.procedure) (standing policy t.user) (is_certifier policy t.user t.procedure) (relations_of policy t.procedure) (triples_of policy t.user t.procedure)
     (count_by (λ row. row.user == t.user) policy.triples) t
     ≡ command_rows policy by (asked.Grant t)
-grant_told policy by t =
+grant_stated policy by t =
     let rows : Bool → Bool → Bool → CommandRows = λ stands related there. record (of_certifier (is_certifier policy by t.procedure)) {
       user = standing policy t.user;
       has_certified = is_certifier policy t.user t.procedure || stands;
@@ -126,12 +126,12 @@ grant_told policy by t =
     ∙ ap (λ related. rows (has_certified policy t.user t.procedure) related (is_held_on t.set (triples_of policy t.user t.procedure))) (relation_among policy t.procedure t.set)
     ∙ ap (rows (has_certified policy t.user t.procedure) (has_relation policy t.procedure t.set)) (triple_among policy t.user t.procedure t.set)
 
-pub revoke_told : (policy : PolicyLists) (by : ℕ) (k : TripleKey) →
+pub revoke_stated : (policy : PolicyLists) (by : ℕ) (k : TripleKey) →
     revoke_rows (is_certifier policy by k.procedure) (triples_of policy k.user k.procedure) k ≡ command_rows policy by (asked.Revoke k)
-revoke_told policy by k = ap (λ there. record (of_certifier (is_certifier policy by k.procedure)) { is_there = there }) (triple_among policy k.user k.procedure k.set)
+revoke_stated policy by k = ap (λ there. record (of_certifier (is_certifier policy by k.procedure)) { is_there = there }) (triple_among policy k.user k.procedure k.set)
 
-pub appoint_told : (policy : PolicyLists) (by : ℕ) (c : Certifier) →
+pub appoint_stated : (policy : PolicyLists) (by : ℕ) (c : Certifier) →
     appoint_rows (standing policy by) (standing policy c.user) (triples_of policy c.user c.procedure) (is_certifier policy c.user c.procedure) ≡ command_rows policy by (asked.Appoint c)
-appoint_told policy by c =
+appoint_stated policy by c =
     ap (λ executes. record (of_officer (is_officer policy by)) { user = standing policy c.user; executes = executes; is_there = is_certifier policy c.user c.procedure })
     (executes_some policy c.user c.procedure)

@@ -25,7 +25,7 @@ pub struct CommandRows {
     pub is_related: bool,
     /// Whether what it adds or takes away is there.
     pub is_there: bool,
-    /// How many there are of what it adds, of which there may only be so many: sets, relations of the procedure, triples
+    /// How many there are of what it adds, whose number is limited: sets, relations of the procedure, triples
     /// of the user.
     pub count: u64,
 }

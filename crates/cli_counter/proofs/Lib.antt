@@ -1,3 +1,6 @@
 mod ActionLemmas
 mod DayLemmas
 mod MomentLemmas
+mod PartLemmas
+mod PlaceLemmas
+mod UnseenLemmas

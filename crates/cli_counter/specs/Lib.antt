@@ -3,3 +3,4 @@ pub mod Attending
 pub mod Faults
 pub mod InFile
 pub mod Moments
+pub mod Places

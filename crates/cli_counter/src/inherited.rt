@@ -1,5 +1,6 @@
 //! The listening socket that a supervisor hands over to the program as it starts.
 
+use crate::listener::Listener;
 use crate::probed::Probed;
 use mio::net::{TcpListener, UnixListener};
 use os::FromRawFd;
@@ -10,18 +11,9 @@ use std::{env, net, process};
 /// The descriptor that a supervisor hands over first.
 const FIRST: RawFd = 3;
 
-/// The listening socket that the program was started with, of either kind.
-#[derive(Drop)]
-pub(crate) enum Inherited {
-    /// One of TCP.
-    Tcp(Probed<TcpListener>),
-    /// A Unix socket.
-    Unix(Probed<UnixListener>),
-}
-
 /// The listening socket that a supervisor handed over as descriptor 3: it says that there is one, and that it is for this process,
 /// by LISTEN_FDS and LISTEN_PID. What is no socket is left open as it is.
-pub(crate) fn inherited_socket(rt: &HostRuntime) -> Option<Inherited> {
+pub(crate) fn inherited_socket(rt: &HostRuntime) -> Option<Probed<Listener>> {
     if !has_number(rt, "LISTEN_FDS", 1)
         || !has_number(rt, "LISTEN_PID", process::id(rt.process()))
     {
@@ -58,17 +50,17 @@ fn has_number(rt: &HostRuntime, name: &str, number: u32) -> bool {
 }
 
 /// A door of TCP.
-fn of_tcp(listener: net::TcpListener) -> Option<Inherited> {
+fn of_tcp(listener: net::TcpListener) -> Option<Probed<Listener>> {
     if listener.set_nonblocking(true).is_err() {
         return None;
     }
-    Some(Inherited::Tcp(Probed::new(TcpListener::from_std(listener))?))
+    Probed::new(Listener::Tcp(TcpListener::from_std(listener)))
 }
 
 /// A door that is a Unix socket.
-fn of_unix(listener: unix::net::UnixListener) -> Option<Inherited> {
+fn of_unix(listener: unix::net::UnixListener) -> Option<Probed<Listener>> {
     if listener.set_nonblocking(true).is_err() {
         return None;
     }
-    Some(Inherited::Unix(Probed::new(UnixListener::from_std(listener))?))
+    Probed::new(Listener::Unix(UnixListener::from_std(listener)))
 }

@@ -1,70 +1,68 @@
 //! A socket that is found to listen before it is used, with no connection lost by that.
 
-use counter_loop::Door;
+use counter_door::Accepts;
 use mio::event::Source;
-use mio::net::{TcpListener, TcpStream, UnixListener, UnixStream};
 use mio::{Interest, Registry, Token};
 use std::io;
 use std::io::ErrorKind;
 
-/// A door that was found to be one by accepting the first connection that waited there, if one did.
+/// A socket that was found to listen by accepting the first connection that waited there, if one did.
 #[derive(Drop)]
-pub(crate) struct Probed<D: Door + Drop> {
-    door: D,
-    first: Option<D::Stream>,
+pub struct Probed<A: Accepts + Drop> {
+    accepts: A,
+    first: Option<A::Stream>,
 }
 
-impl<D: Door + Drop> Probed<D> {
-    /// The door, or none where it is no listening socket.
-    pub(crate) fn new(mut door: D) -> Option<Probed<D>> {
-        match door.next() {
+impl<A: Accepts + Drop> Probed<A> {
+    /// One that is known to listen.
+    pub(crate) fn unprobed(accepts: A) -> Probed<A> {
+        Probed {
+            accepts,
+            first: None,
+        }
+    }
+
+    /// The same, or none where it is no listening socket.
+    pub(crate) fn new(mut accepts: A) -> Option<Probed<A>> {
+        match accepts.accept_next() {
             Ok(stream) => Some(Probed {
-                door,
+                accepts,
                 first: Some(stream),
             }),
             Err(e) => {
                 if e.kind() == ErrorKind::WouldBlock {
-                    Some(Probed { door, first: None })
+                    Some(Probed {
+                        accepts,
+                        first: None,
+                    })
                 } else {
                     None
                 }
             }
         }
     }
+}
+
+impl<A: Accepts + Drop> Accepts for Probed<A> {
+    type Stream = A::Stream;
 
     /// The connection that waited first, and then those that come.
-    fn first_or_next(&mut self) -> io::Result<D::Stream> {
+    fn accept_next(&mut self) -> io::Result<A::Stream> {
         match self.first.take() {
             Some(stream) => Ok(stream),
-            None => self.door.next(),
+            None => self.accepts.accept_next(),
         }
     }
 }
 
-impl Door for Probed<TcpListener> {
-    type Stream = TcpStream;
-
-    fn next(&mut self) -> io::Result<TcpStream> {
-        self.first_or_next()
-    }
-}
-
-impl Door for Probed<UnixListener> {
-    type Stream = UnixStream;
-
-    fn next(&mut self) -> io::Result<UnixStream> {
-        self.first_or_next()
-    }
-}
-
-impl<D: Door + Source + Drop> Source for Probed<D> {
+impl<A: Accepts + Source + Drop> Source for Probed<A> {
     fn register(
         &mut self,
         registry: &Registry,
         token: Token,
         interests: Interest,
     ) -> io::Result<()> {
-        registry.register(&mut self.door, token, interests)
+        registry.register(&mut self.accepts, token, interests)
     }
 
     fn reregister(
@@ -73,10 +71,10 @@ impl<D: Door + Source + Drop> Source for Probed<D> {
         token: Token,
         interests: Interest,
     ) -> io::Result<()> {
-        registry.reregister(&mut self.door, token, interests)
+        registry.reregister(&mut self.accepts, token, interests)
     }
 
     fn deregister(&mut self, registry: &Registry) -> io::Result<()> {
-        registry.deregister(&mut self.door)
+        registry.deregister(&mut self.accepts)
     }
 }

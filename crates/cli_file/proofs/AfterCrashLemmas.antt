@@ -11,12 +11,15 @@ use Rattle.sqlite.specs.Tree.{Trees}
 use Rattle.sqlite.proofs.Theorems.{opens_again}
 use Rattle.bank_books.specs.WorldLists.{WorldLists}
 use Rattle.bank_meaning.specs.Run.{Marked, step, world_after}
-use Rattle.bank_meaning.specs.Sums.{AreProper, IsProper, PassesChecks}
+use Rattle.bank_meaning.specs.Sums.{IsProper, PassesChecks}
 use Rattle.bank_meaning.specs.declared.request.Request.{Request}
 use Rattle.bank_meaning.proofs.RunSums.{sums_always_agree}
+use Rattle.store_rows.specs.Status.{Status}
+use Rattle.counter_api.specs.Run.{AreInRange, requests_of}
+use Rattle.counter_api.proofs.RunLemmas.{proper_of}
 use Rattle.sql_schema.specs.Held.{AreOfWorld}
 use Rattle.sql_schema.specs.Schema.{newest, schema_of}
-use Rattle.cli_file.specs.AfterCrash.{AreInRange, BeginsWith, IsNumbered, LeavesImages, OpensAfterCrash, PassesOverEachCrash}
+use Rattle.cli_file.specs.AfterCrash.{BeginsWith, IsNumbered, LeavesImages, OpensAfterCrash, PassesOverCrash}
 use Rattle.cli_file.specs.Crash.{IsLeftByCrash}
 use Rattle.cli_file.specs.Moments.{IsLeftWithin}
 use Rattle.cli_file.specs.Opened.{IsBankImage}
@@ -51,12 +54,6 @@ opens_after_crash f next = record {
 
 -- ---- both checks
 
-proper_of : (requests : List Marked) → AreInRange requests → AreProper requests
-proper_of [] proper = All-nil (λ m. m.mark ≡ None → IsProper m.request)
-proper_of (m ∷ ms) proper =
-    All-cons (λ m. m.mark ≡ None → IsProper m.request) m ms (λ made. All-head (λ m. IsProper m.request) m ms proper)
-    (proper_of ms (All-tail (λ m. IsProper m.request) m ms proper))
-
 at_place : (requests : List Marked) (place : ℕ) (m : Marked) → AreInRange requests → slice_get requests place ≡ Some m → IsProper m.request
 at_place [] place m proper is = absurd cc
 at_place (x ∷ []) zero m proper is = let same : x ≡ m = cc in subst (λ (z : Marked). IsProper z.request) same (All-head (λ m. IsProper m.request) x [] proper)
@@ -89,8 +86,8 @@ passes_within w over more left checks proper also (inr (m, one, is)) =
     subst PassesChecks (sym is) (passes_with (world_after w over) m.request (passes_after w over checks proper)
     (All-head (λ m. IsProper m.request) m [] (subst AreInRange one also)))
 
-pub passes_over_each_crash : PassesOverEachCrash
-passes_over_each_crash w checks = record {
-  after = λ requests left proper is. passes_left w requests left checks proper is;
-  within = λ over more left proper also is. passes_within w over more left checks proper also is;
+pub passes_over_crash : {S : Type 0} (status : S → Status) → PassesOverCrash status
+passes_over_crash status = record {
+  after = λ users w ms ended day left is. passes_left w (requests_of users ms) left day.checked day.in_range is;
+  within = λ users w over more now next day way left is. passes_within w (requests_of users over) (requests_of users more) left day.checked day.in_range way.in_range is;
 }

@@ -136,7 +136,7 @@ pub acts_once_over_crash : (w : WorldLists) (requests : List Marked) (left : Wor
 acts_once_over_crash w requests left is = record {
   accepted = kept_over w requests left is;
   as_it_was = λ x named may. retries_act_once.0 (world_after w requests) x left named may;
-  sent_again = λ x y text named sent may told. retries_act_once.1 (world_after w requests) x y left text named sent may told;
+  sent_again = λ x y text named sent may stated. retries_act_once.1 (world_after w requests) x y left text named sent may stated;
 }
 
 -- ---- one request more, which was under way
@@ -148,7 +148,7 @@ acts_once_within w requests q left same = record {
       subst (λ v. IsKeptReply v x (reply_text (world_after w (take n requests)) (executes x))) (sym same)
       (kept_after w requests (record { request = q; mark = None } ∷ []) n x is.there is.slip is.accepted);
   as_it_was = λ x named may. retries_act_once.0 (world_after w requests) x left named may;
-  sent_again = λ x y text named sent may told. retries_act_once.1 (world_after w requests) x y left text named sent may told;
+  sent_again = λ x y text named sent may stated. retries_act_once.1 (world_after w requests) x y left text named sent may stated;
 }
 
 quiet_on : (w : WorldLists) (d : Marked) (over : List Marked) → w ≡ world_after w (d ∷ over) → AreQuiet (after_request w d) over → AreQuiet w (d ∷ over)

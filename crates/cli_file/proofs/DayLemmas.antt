@@ -35,7 +35,7 @@ day_below status users began ended ms empty unread day =
       moved = λ clean w held. (day.moved clean w (holds w held)).0;
       leaves = λ clean w held. day.leaves clean w (holds w held);
       whole = λ clean w held. day.whole clean w (holds w held);
-      proper = day.proper;
+      in_range = day.in_range;
       headline = day.headline;
     }
 
@@ -60,7 +60,7 @@ module _ {D : Type 0} {g : Ghosts D} (users : List ℕ → Option ℕ) (opened :
   bank_day image w of from clean =
       let began_clean : HasCleanDisk (file_state begun.conn) = day.honest clean in
       let bank = found.bank image w of from began_clean in
-      let holds : (file_status begun).holds w = λ honest is_open. bank.holds is_open in
+      let holds : (file_status begun).holds w = (λ honest is_open. bank.holds is_open, λ honest. found.begins.known w) in
       let leaves : (left : WorldLists) → (file_status ended).may_leave left → IsLeftByCrash w (requests_of users ms) left =
       λ left may. elim (day.leaves clean w holds left may) [
         | inl is ↦ inl is
@@ -71,6 +71,7 @@ module _ {D : Type 0} {g : Ghosts D} (users : List ℕ → Option ℕ) (opened :
       ] in
       record {
         checked = bank.checked;
+        in_range = day.in_range;
         headline = day.headline w bank.checked;
         replied = replied clean w holds;
         holds = day.moved clean w holds;

@@ -166,7 +166,7 @@ closed_holds g conn files copies w holds reads image (both, which, found) =
 
 pub closed_bank : {D : Type 0} (g : Ghosts D) (store : BankStore D g) (files : Files D) → (AreClean g files.log files.db → IsCopied store.conn files)
     → (w : WorldLists) → (file_status store).holds w → HoldTheBank g files w
-closed_bank g store files copies w holds = closed_holds g store.conn files copies w holds
+closed_bank g store files copies w holds = closed_holds g store.conn files copies w holds.0
 
 -- ---- not closed
 
@@ -178,9 +178,9 @@ unclosed_bank store left closed whole clean trees may =
     (world.0, world.1, (trees, before, world.1))
 
 -- what is said of each World that a crash could leave before is said of what it leaves now
-pub unclosed_leaves : {D : Type 0} {g : Ghosts D} (store : BankStore D g) (told : ActionFault) (left : FileStore D g) (P : WorldLists → Type 0) → IsNotClosed store told left
+pub unclosed_leaves : {D : Type 0} {g : Ghosts D} (store : BankStore D g) (stated : ActionFault) (left : FileStore D g) (P : WorldLists → Type 0) → IsNotClosed store stated left
     → (HasCleanDisk (file_state store.conn) → (file_status store).leaves_a_world × ((w : WorldLists) → (file_status store).may_leave w → P w)) → LeavesOnly left P
-unclosed_leaves store told left P closed says clean trees may =
+unclosed_leaves store stated left P closed says clean trees may =
     let said = says (omega (arith, clean, closed.closed.quiet.clean)) in
     let world = closed.bank said.0 clean trees may in
     (world.0, world.1, said.1 world.0 world.2)

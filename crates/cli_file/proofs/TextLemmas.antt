@@ -1,4 +1,4 @@
--- What reading a list comes to, by the bytes that its reader has left.
+-- What reading a list gives, by the bytes that its reader has left.
 use Rattle.std.proofs.Common.{◌≡◌, ◌≤◌, ◌+◌, ◌∙◌, ◌++◌, ap, subst, arith, ℕ, List, [], Option, Some, None, IfSome, length, take}
 use Rattle.std.specs.Io.Take.{take_remaining}
 use Rattle.std.specs.Option.{option_map}

@@ -1,5 +1,5 @@
 -- From what a crash leaves of a bank in a file to the image with which the next day begins.
-use Rattle.std.specs.Prelude.{ℕ, List, All, Option, IsTrue, ⊤}
+use Rattle.std.specs.Prelude.{ℕ, List, Option, IsTrue, ⊤}
 use Rattle.sqlite_disk.specs.declared.Disk.{Ghosts}
 use Rattle.sqlite_store.specs.FileStore.{state, view}
 use Rattle.sqlite_trees.specs.View.{IsClean}
@@ -10,7 +10,8 @@ use Rattle.sqlite.specs.Held.{Held}
 use Rattle.sqlite.specs.State.{HasCleanDisk}
 use Rattle.bank_books.specs.WorldLists.{WorldLists}
 use Rattle.bank_meaning.specs.Run.{Marked}
-use Rattle.bank_meaning.specs.Sums.{IsProper, PassesChecks}
+use Rattle.bank_meaning.specs.Sums.{PassesChecks}
+use Rattle.store_rows.specs.Status.{Status}
 use Rattle.counter_api.specs.Run.{MarkedMessage, requests_of}
 use Rattle.cli_file.specs.BankDay.{IsBankDay}
 use Rattle.cli_file.specs.Crash.{ActsOnceOverCrash, IsLeftByCrash}
@@ -49,14 +50,11 @@ pub record OpensAfterCrash {C D : Type 0} (f : Ghosts C) {g : Ghosts D} (next : 
   pub unclosed : (w : WorldLists) (requests : List Marked) (rest : FileStore C f) → IsNumbered rest → IsClean (view rest) → LeavesOnly rest (IsLeftByCrash w requests)
       → LeavesImages rest next (IsLeftByCrash w requests)
 
--- requests in range, those too that a fault kept from being made
-abbrev pub AreInRange : List Marked → Type 0
-AreInRange = All (λ m. IsProper m.request)
-
--- What a crash leaves passes both checks: its sums agree, and its policy is sound and separated.
-pub record PassesOverCrash (w : WorldLists) : Type 0 where
-  pub after : (requests : List Marked) (left : WorldLists) → AreInRange requests → IsLeftByCrash w requests left → PassesChecks left
-  pub within : (over under_way : List Marked) (left : WorldLists) → AreInRange over → AreInRange under_way → IsLeftWithin w over under_way left → PassesChecks left
-
-abbrev pub PassesOverEachCrash : Type 0
-PassesOverEachCrash = (w : WorldLists) → PassesChecks w → PassesOverCrash w
+-- What a crash leaves of a store passes both checks: its sums agree, and its policy is sound and separated.
+pub record PassesOverCrash {S : Type 0} (status : S → Status) : Type 0 where
+  -- at the end of a day, whatever is said of its replies, and where the file could not be closed, too,
+  pub after : (users : List ℕ → Option ℕ) (w : WorldLists) (ms : List MarkedMessage) (ended : S) → IsBankDay users w ms (λ v. ⊤) (status ended)
+      → (left : WorldLists) → IsLeftByCrash w (requests_of users ms) left → PassesChecks left
+  -- and while a message is under way
+  pub within : (users : List ℕ → Option ℕ) (w : WorldLists) (over more : List MarkedMessage) (now next : S) → IsBankDay users w over (λ v. ⊤) (status now) → IsUnderWay users w over more (status next)
+      → (left : WorldLists) → IsLeftWithin w (requests_of users over) (requests_of users more) left → PassesChecks left

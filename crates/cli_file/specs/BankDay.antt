@@ -6,7 +6,7 @@ use Rattle.bank_meaning.specs.Headline.{IsHeadline}
 use Rattle.bank_meaning.specs.Run.{world_after}
 use Rattle.bank_meaning.specs.Sums.{PassesChecks}
 use Rattle.store_rows.specs.Status.{Status}
-use Rattle.counter_api.specs.Run.{MarkedMessage, requests_of}
+use Rattle.counter_api.specs.Run.{AreInRange, MarkedMessage, requests_of}
 use Rattle.cli_file.specs.Crash.{ActsOnceOverCrash, IsLeftByCrash}
 
 -- One day of the bank in a file: of the World that the file held, of these messages, which are all that were answered but
@@ -17,6 +17,8 @@ use Rattle.cli_file.specs.Crash.{ActsOnceOverCrash, IsLeftByCrash}
 pub record IsBankDay (users : List ℕ → Option ℕ) (w : WorldLists) (ms : List MarkedMessage) (AreReplied : WorldLists → Type 0) (ended : Status) : Type 0 where
   -- The World that the file held passes both checks: its books hold, and its policy is sound and separated.
   pub checked : PassesChecks w
+  -- The members, the moment and the slip of each request are in their ranges, of one too that a fault kept from being made.
+  pub in_range : AreInRange (requests_of users ms)
   -- Each operation that repeats none is carried out exactly where all that the policy, the books and its slip ask for is
   -- held. A request that a rule denies changes nothing, and its reply names the first rule against it. No one executes
   -- what they certify. The sums agree after each request. The policy is the one in force by last word, of commands as long

@@ -17,7 +17,7 @@ use Rattle.cli_file.specs.declared.left.PathLeft.TheVariants as path
 -- one was found, and this is the connection to it; or none was, and this is why
 abbrev pub IsCheckedIn : {D : Type 0} {g : Ghosts D} → Held (FileStore D g) → Held (FileStore D g) → Result Unit ActionFault → Type 0
 IsCheckedIn {D} {g} opened now (Ok done) = (store : BankStore D g) × IsFound opened store × (now ≡ store.conn)
-IsCheckedIn opened now (Err told) = IsNotFound opened told now
+IsCheckedIn opened now (Err stated) = IsNotFound opened stated now
 
 module _ {D : Type 0} (g : Ghosts D) (image : Image) where
   -- the file was opened, and a bank was found there, or none

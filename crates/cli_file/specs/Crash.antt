@@ -1,4 +1,4 @@
--- What a crash leaves of a bank, by the requests that it had, and what bears a slip and is sent again to that.
+-- What a crash leaves of a bank, by the requests that it was sent, and what bears a slip and is sent again to that.
 use Rattle.std.specs.Prelude.{◌≡◌, ◌≢◌, ◌⊎◌, ◌≤◌, ℕ, List, Some, Ok, slice_get, take}
 use Rattle.money.specs.declared.fault.Fault.{Fault}
 use Rattle.bank_books.specs.WorldLists.{WorldLists}

@@ -29,8 +29,8 @@ IsBadBadge list number (fault.Badge named row) = (named.now ≡ list) × (row �
 IsBadBadge list number _ = ⊥
 
 abbrev pub IsOfBadges : List ℕ → RecordFault → ActionFault → Type 0
-IsOfBadges list of_record.Memory told = told ≡ fault.Memory
-IsOfBadges list (of_record.Bad row) told = IsBadBadge list row told
+IsOfBadges list of_record.Memory stated = stated ≡ fault.Memory
+IsOfBadges list (of_record.Bad row) stated = IsBadBadge list row stated
 
 -- the file failed, or memory was refused
 abbrev pub IsOfFile : ActionFault → Type 0
@@ -41,7 +41,7 @@ IsOfFile _ = ⊥
 -- the same, or the file has no bytes
 abbrev pub IsUnopened : ActionFault → Type 0
 IsUnopened fault.NotABank = ⊤
-IsUnopened told = IsOfFile told
+IsUnopened stated = IsOfFile stated
 
 -- lists, books or a policy that were handed in are refused, or a year that is not closed
 abbrev pub is_refusal : ActionFault → Bool

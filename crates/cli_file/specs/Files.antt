@@ -25,7 +25,7 @@ use Rattle.sql_adopt.specs.Adopted.{Adopts, HoldsBankIn, IsBankFile, IsBankFileI
 use Rattle.sql_adopt.specs.Refused.{HoldsSoundBank, IsNamedBy, IsOfOther, IsOfStore, IsRefused}
 use Rattle.sql_adopt.specs.declared.adopt_fault.AdoptFault.{AdoptFault}
 use Rattle.store_rows.specs.Status.{Status}
-use Rattle.store_sql.specs.Bank.{MayLeave, sql_status}
+use Rattle.store_sql.specs.Bank.{KnowsNothing, MayLeave, sql_status, with_known}
 use Rattle.store_sql.specs.declared.sql_store.SqlStore.{SqlStore}
 use Rattle.cli_file.specs.Faults.{IsOfFile, fault_of_adopting}
 use Rattle.cli_file.specs.Opened.{HoldTheBank, IsBankImage, IsBankImageIn, IsOpenedFrom}
@@ -38,13 +38,14 @@ BankStore D g = SqlStore (FileStore D g) over_files
 module _ {D : Type 0} {g : Ghosts D} where
   -- what the store of a bank in a file represents
   abbrev pub file_status : BankStore D g → Status
-  file_status store = sql_status (file_state store.conn) store.is_stopped store.faults store.failures
+  file_status store = with_known store.known (sql_status (file_state store.conn) store.is_stopped store.faults store.failures)
 
-  -- the store has met no fault, and is not stopped
+  -- the store has met no fault, is not stopped, and knows nothing yet
   pub record IsNewStore (store : BankStore D g) : Type 0 where
     pub works : store.is_stopped ≡ false
     pub no_fault : store.faults ≡ 0
     pub no_failure : store.failures ≡ 0
+    pub known : KnowsNothing store.known
 
   -- The World passes both checks, the file holds it, and a crash leaves it and no other.
   pub record IsBankKept (w : WorldLists) (conn : Held (FileStore D g)) : Type 0 where
@@ -79,9 +80,9 @@ module _ {D : Type 0} {g : Ghosts D} where
 
   -- Where the tables were those of a bank, this is its first fault, and nothing was changed. One of an earlier schema
   -- version is reported as of another version. A sound bank is refused for a fault of the file or want of memory.
-  pub record IsNotFound (opened : Held (FileStore D g)) (told : ActionFault) (left : Held (FileStore D g)) : Type 0 where
+  pub record IsNotFound (opened : Held (FileStore D g)) (stated : ActionFault) (left : Held (FileStore D g)) : Type 0 where
     pub why : AdoptFault
-    pub told_so : told ≡ fault_of_adopting why
+    pub is_reported : stated ≡ fault_of_adopting why
     pub refused : HasCleanDisk (file_state left) → IsBankFile (file_state opened) → IsRefused (file_state opened).now.trees why
     pub sound : HasCleanDisk (file_state left) → IsBankFile (file_state opened) → HoldsSoundBank (file_state opened).now → IsOfStore why
     pub named : HasCleanDisk (file_state left) → IsBankFile (file_state opened) → (s : Sheets) → HoldsSheets (file_state opened).now.trees s → AreReadable s → IsNamedBy s why
@@ -99,8 +100,8 @@ module _ {D : Type 0} {g : Ghosts D} where
   LeavesOnly left P = IsClean (view left) → (trees : Trees) → recovers left trees → (w : WorldLists) × AreOfWorld w trees × P w
 
   -- Where it could not be closed, nothing is lost that stood in the file and its log: together they are a World that a crash could leave before.
-  pub record IsNotClosed (store : BankStore D g) (told : ActionFault) (left : FileStore D g) : Type 0 where
-    pub of_file : IsOfFile told
+  pub record IsNotClosed (store : BankStore D g) (stated : ActionFault) (left : FileStore D g) : Type 0 where
+    pub of_file : IsOfFile stated
     pub closed : closing.IsClosed store.conn left
     pub bank : (file_status store).leaves_a_world → LeavesOnly left (file_status store).may_leave
 

@@ -9,6 +9,6 @@ use Rattle.cli_file.specs.declared.left.PathLeft.TheVariants as path
 
 -- It was not opened, for what was seen of it, and the opener is handed back; or the opener failed.
 abbrev pub IsUnopenedFor : {D O : Type 0} {g : Ghosts D} → O → PathLeft O (FileLeft D g) → ActionFault → Type 0
-IsUnopenedFor opener (path.Unopened o) told = (o ≡ opener) × IsUnopened told
-IsUnopenedFor opener path.Refused told = IsOfFile told
-IsUnopenedFor opener (path.Opened left) told = ⊥
+IsUnopenedFor opener (path.Unopened o) stated = (o ≡ opener) × IsUnopened stated
+IsUnopenedFor opener path.Refused stated = IsOfFile stated
+IsUnopenedFor opener (path.Opened left) stated = ⊥

@@ -29,7 +29,7 @@ pub(crate) fn begin_file(
     }
 }
 
-/// Whether a file of this length and with so many names takes a first page, where a log or a journal stands beside it or not.
+/// Whether a file of this length and with this number of names takes a first page, where a log or a journal stands beside it or not.
 fn takes_page(len: u64, names: u64, has_log: bool, has_journal: bool) -> bool
     ensures { IsTrue result ↔ (len ≡ 0) × (names ≡ 1) × (has_log ≡ false) × (has_journal ≡ false) }
 {

@@ -3,13 +3,14 @@
 
 ghost use Rattle.sqlite_store.specs.FileStore.{view};
 ghost use Rattle.sqlite_trees.specs.View.{IsClean};
-ghost use Rattle.cli_file.specs.AfterCrash.{IsNumbered, OpensAfterCrash, PassesOverEachCrash};
+ghost use Rattle.cli_file.specs.AfterCrash.{IsNumbered, OpensAfterCrash, PassesOverCrash};
 ghost use Rattle.cli_file.specs.Laws.{OpensAgain, OpensAsItsBank, OpensUndamaged, OpensWithItsSums};
-ghost use Rattle.cli_file.specs.Premises.{PremisesAreMet};
+ghost use Rattle.cli_file.specs.Premises.{AreFoundAsLeft, PremisesAreMet};
 
 use crate::file::{BankFile, FileConnection};
 use sqlite::{FileStore, Files};
 use sqlite_disk::Disk;
+use store_rows::Store;
 
 /// An image of a file and its log that holds the bank of a World opens as that bank: of which the clauses of every action
 /// over the file speak.
@@ -39,9 +40,9 @@ pub fn opens_after_crash<C: Disk + Drop, D: Disk + Drop>(
     store.into_connection().into_store()
 }
 
-/// What a crash leaves of a bank passes both checks, so that its sums agree.
-pub fn checks_pass_after_crash()
-    ensures { PassesOverEachCrash }
+/// What a crash leaves of a bank after a day, or within its next message, passes both checks, so that its sums agree.
+pub fn checks_pass_after_crash<S: Store>(_store: &S)
+    ensures { PassesOverCrash S.status }
 {}
 
 /// A file that says that its pages end in sums is opened only where each page does, but for pages that its log has.
@@ -55,8 +56,15 @@ pub fn damaged_bank_is_the_same<D: Disk + Drop>(_conn: &FileConnection<D>)
     ensures { OpensUndamaged _conn.now }
 {}
 
-/// What the laws on sums suppose is met by what it is named for. A new file that was asked for with sums says so, and so does each
-/// that has a database whose pages each reserve eight bytes. No page collides where each that is damaged does not end in its sum.
+/// What laws suppose is met by what it is named for. A new file that was asked for with sums says so, and so does each that has a
+/// database whose pages each reserve eight bytes. No page collides where each that is damaged does not end in its sum. Requests that
+/// were made and are proper are in range.
 pub fn premises_are_met()
     ensures { PremisesAreMet }
+{}
+
+/// Closed files may be found as they are, and as whatever a crash leaves of them, and each file alone, with no log: so what is said of
+/// each image that may be found is said of these.
+pub fn closed_files_are_found<D: Disk + Drop>(_files: &Files<D>)
+    ensures { AreFoundAsLeft D.Disk _files.now }
 {}

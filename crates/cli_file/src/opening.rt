@@ -33,7 +33,7 @@ pub trait Opener<D: Disk + Drop>: Drop {
         ensures refused { IfErr result IsOfFile };
 
     /// Opens a file in which a bank is to be made, or makes it. One that holds nothing begins as an empty database in pages of
-    /// 1,024 bytes, which end in sums where these are asked for. What it holds otherwise is opened as `open` does.
+    /// 512 bytes, which end in sums where these are asked for. What it holds otherwise is opened as `open` does.
     fn make(
         self,
         rt: &HostRuntime,

@@ -7,35 +7,35 @@ ghost use Rattle.cli_file.specs.Pages.{page_of_new};
 use sqlite_wal::checksum_of;
 
 /// How long a page of a new file is, in bytes.
-pub(crate) const PAGE_LEN: usize = 1024;
+pub(crate) const PAGE_LEN: usize = 512;
 
 /// Where the sum of a page begins. It is of the bytes before it.
-const SUM_AT: usize = 1016;
+const SUM_AT: usize = 504;
 
 /// How long the beginning of a first page is, in bytes. What follows is 0.
 const HEAD_LEN: usize = 107;
 
-/// The header of a database of one page of 1,024 bytes, which are all used, and of an empty leaf. By offset: 16 how long a page is;
+/// The header of a database of one page of 512 bytes, which are all used, and of an empty leaf. By offset: 16 how long a page is;
 /// 18 and 19 a log is kept; 20 the bytes kept at each page's end; 28 one page; 44 the schema's format; 56 UTF-8; 96 SQLite 3.45.0;
 /// 100 a leaf of a table with no cell; 105 where cells begin.
 const PLAIN: [u8; HEAD_LEN] = [
-    83, 81, 76, 105, 116, 101, 32, 102, 111, 114, 109, 97, 116, 32, 51, 0, 4, 0, 2, 2, 0, 64, 32,
+    83, 81, 76, 105, 116, 101, 32, 102, 111, 114, 109, 97, 116, 32, 51, 0, 2, 0, 2, 2, 0, 64, 32,
     32, 0, 0, 0, 0, 0, 0, 0, 1, 0, 0, 0, 0, 0, 0, 0, 0, 0, 0, 0, 1, 0, 0, 0, 4, 0, 0, 0, 0, 0, 0,
     0, 0, 0, 0, 0, 1, 0, 0, 0, 0, 0, 0, 0, 0, 0, 0, 0, 0, 0, 0, 0, 0, 0, 0, 0, 0, 0, 0, 0, 0, 0, 0,
-    0, 0, 0, 0, 0, 0, 0, 0, 0, 0, 0, 46, 118, 136, 13, 0, 0, 0, 0, 4, 0,
+    0, 0, 0, 0, 0, 0, 0, 0, 0, 0, 0, 46, 118, 136, 13, 0, 0, 0, 0, 2, 0,
 ];
 
 /// The same, where the last eight bytes of each page are its sum.
 const WITH_SUM: [u8; HEAD_LEN] = [
-    83, 81, 76, 105, 116, 101, 32, 102, 111, 114, 109, 97, 116, 32, 51, 0, 4, 0, 2, 2, 8, 64, 32,
+    83, 81, 76, 105, 116, 101, 32, 102, 111, 114, 109, 97, 116, 32, 51, 0, 2, 0, 2, 2, 8, 64, 32,
     32, 0, 0, 0, 0, 0, 0, 0, 1, 0, 0, 0, 0, 0, 0, 0, 0, 0, 0, 0, 1, 0, 0, 0, 4, 0, 0, 0, 0, 0, 0,
     0, 0, 0, 0, 0, 1, 0, 0, 0, 0, 0, 0, 0, 0, 0, 0, 0, 0, 0, 0, 0, 0, 0, 0, 0, 0, 0, 0, 0, 0, 0, 0,
-    0, 0, 0, 0, 0, 0, 0, 0, 0, 0, 0, 46, 118, 136, 13, 0, 0, 0, 0, 3, 248,
+    0, 0, 0, 0, 0, 0, 0, 0, 0, 0, 0, 46, 118, 136, 13, 0, 0, 0, 0, 1, 248,
 ];
 
 /// A page that begins so.
 fn laid(head: &[u8; HEAD_LEN]) -> [u8; PAGE_LEN]
-    ensures { result ≡ head.now ++ replicate 917 0 }
+    ensures { result ≡ head.now ++ replicate 405 0 }
 {
     let mut page = [0; PAGE_LEN];
     page[..HEAD_LEN].copy_from_slice(head);

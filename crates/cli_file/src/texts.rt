@@ -25,7 +25,10 @@ fn bytes_of<R: Read + Drop>(alloc: Global, reader: R) -> io::Result<Vec<u8>>
 }
 
 /// The text of a list, which a reader has left.
-pub fn text_of<R: Read + Drop>(alloc: Global, reader: R) -> Result<Vec<u8>, ActionFault<'static>>
+pub(crate) fn text_of<R: Read + Drop>(
+    alloc: Global,
+    reader: R,
+) -> Result<Vec<u8>, ActionFault<'static>>
     ensures text { IfOk result (λ text. IsTextOf (R.remaining reader) text.items) }
     ensures refused { IfErr result IsOfFile }
 {

@@ -1,5 +1,6 @@
 pub mod Actions
 pub mod Faults
 pub mod Listening
+pub mod Moments
 pub mod Replied
 pub mod Serving

@@ -9,5 +9,6 @@ mod listening;
 mod serving;
 
 pub use actions::{run_file, serve_file};
+pub use counter_connections::{CountedPort, Failures};
 pub use listening::listen_in;
 pub use serving::serve_in;

@@ -6,8 +6,8 @@ ghost use Rattle.cli_serve.specs.Listening.{IsListenedIn, end_of_port};
 
 use crate::faults::fault_of_port;
 use cli_file::{ActionFault, FileConnection, FileLeft, Progress, close, find};
-use counter_api::{Clock, Gate};
-use counter_connections::{PortFault, serve_port_behind_cache};
+use counter_api::{Asking, Clock, Gate};
+use counter_connections::{CountedPort, Failures, PortFault, serve_port_with_cache};
 use money::Tallied;
 use sqlite_disk::Disk;
 use std::io::Write;
@@ -26,36 +26,50 @@ fn ended(
     }
 }
 
-/// Serves a port of 127.0.0.1 over the bank that stands in an open file, to the users of a gate, until so many messages
-/// are counted: the bank is found, the port is bound and printed, connections are served with a cache of its policy in
-/// front, and the bank is closed. What is left of the file is handed back.
-pub fn listen_in<D: Disk + Drop, G: Gate, C: Clock, W: Write, P: Write + Drop>(
+/// Serves a port of 127.0.0.1 over the bank that stands in an open file, to the users of a gate, until its messages are
+/// counted: the bank is found, the port is bound and printed, connections are served with a cache of its policy in
+/// front, and the bank is closed. What is left of the file is handed back, the clock, and what failed at the port, if it was
+/// served.
+pub fn listen_in<D: Disk + Drop, G: Gate + Copy, C: Clock, W: Write, P: Write + Drop>(
     rt: &HostRuntime,
     conn: FileConnection<D>,
-    gate: &G,
-    clock: &mut C,
-    port: u16,
-    requests: u32,
+    asking: Asking<G, C>,
+    at: CountedPort,
     output: &mut Tallied<W>,
     progress: &mut Progress<P>,
-) -> (FileLeft<D>, Result<(), ActionFault<'static>>)
+) -> (
+    FileLeft<D>,
+    C,
+    Option<Failures>,
+    Result<(), ActionFault<'static>>,
+)
     requires { conn.in_transaction ≡ false }
-    ensures { IsListenedIn D.Disk (G.users gate.now) C.may_give conn port requests
+    ensures { IsListenedIn D.Disk (G.users asking.gate) C.may_give conn at.port at.requests
         (stream_at W.contents output.old) (stream_at W.contents output.new)
-        clock.old clock.new result.0 result.1 }
+        asking.moments result.1 result.2 result.0 result.3 }
 {
     let alloc = rt.alloc();
     progress.begin("reading the bank and checking its books ..\n");
     let store = match find(alloc, conn) {
         Ok(store) => store,
-        Err((fault, conn)) => return (FileLeft::Open(conn), Err(fault)),
+        Err((fault, conn)) => return (FileLeft::Open(conn), asking.moments, None, Err(fault)),
     };
-    let (store, served) = serve_port_behind_cache(
-        rt, alloc, port, store, gate, clock, requests, output,
+    let (store, clock, failures, served) = serve_port_with_cache(
+        rt, alloc, at, store, asking, output,
     );
     progress.begin("writing the log into the file ..\n");
     match close(store) {
-        Ok(files) => (FileLeft::Closed(files), ended(served, None)),
-        Err((fault, left)) => (FileLeft::Unclosed(left), ended(served, Some(fault))),
+        Ok(files) => (
+            FileLeft::Closed(files),
+            clock,
+            failures,
+            ended(served, None),
+        ),
+        Err((fault, left)) => (
+            FileLeft::Unclosed(left),
+            clock,
+            failures,
+            ended(served, Some(fault)),
+        ),
     }
 }

@@ -7,7 +7,7 @@ ghost use Rattle.cli_serve.specs.Serving.{IsServedIn, end_of};
 use crate::faults::fault_of_serving;
 use cli_file::{ActionFault, FileConnection, FileLeft, Progress, close, find};
 use counter_clocks::Moment;
-use counter_service::{Gate, ServeFault, Served, serve_behind_cache};
+use counter_service::{Asking, Gate, ServeFault, Served, serve_with_cache};
 use money::Tallied;
 use sqlite_disk::Disk;
 use std::alloc::Global;
@@ -29,7 +29,7 @@ fn ended(
 
 /// Serves a stream over the bank in an open file, to the users of a gate, with one moment for every message: the bank
 /// is found, served with a cache of its policy in front, and closed. What is left of the file is handed back.
-pub fn serve_in<D: Disk + Drop, G: Gate, R: Read, W: Write, P: Write + Drop>(
+pub fn serve_in<D: Disk + Drop, G: Gate + Copy, R: Read, W: Write, P: Write + Drop>(
     alloc: Global,
     conn: FileConnection<D>,
     gate: &G,
@@ -48,7 +48,11 @@ pub fn serve_in<D: Disk + Drop, G: Gate, R: Read, W: Write, P: Write + Drop>(
         Ok(store) => store,
         Err((fault, conn)) => return (FileLeft::Open(conn), Err(fault)),
     };
-    let (store, served) = serve_behind_cache(alloc, store, gate, moment, input, output);
+    let asking = Asking {
+        gate: *gate,
+        moments: moment,
+    };
+    let (store, served) = serve_with_cache(alloc, store, asking, input, output);
     progress.begin("writing the log into the file ..\n");
     match close(store) {
         Ok(files) => (FileLeft::Closed(files), ended(served, None)),

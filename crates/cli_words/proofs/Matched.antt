@@ -1,5 +1,5 @@
 -- What a caller reads of the rows of matches.
-use Rattle.std.proofs.Common.{◌≡◌, ◌<◌, ◌^◌, ◌∙◌, true, ℕ, List, Option, Some, None, refl, sym, ap, subst, IfSome, IsNone, IsSomeAnd, option_map}
+use Rattle.std.proofs.Common.{◌≡◌, ◌<◌, ◌^◌, ◌∙◌, ◌&&◌, Bool, false, true, ℕ, List, Option, Some, None, refl, sym, ap, subst, IfSome, IsNone, IsSomeAnd, option_map}
 use Rattle.std.specs.Str.Parse.{ParsesUnsigned}
 use Rattle.std.specs.Prelude.{Result, Ok, Err, Box}
 use Rattle.clap.specs.Words.{App, FailsBy, HasMatchesOf, Row, Text, subcommand_name_of, subcommand_rows_of, is_simple, is_simple_and_free, found_of, first_of, first_value, one_text, rows_of, ReadsOne, fault_of, subcommand_of}
@@ -49,11 +49,6 @@ pub one_number : (o : Option Text) (n k : ℕ) → IsSomeAnd o (λ t. Writes t n
 one_number None n k h1 h2 = absurd h1
 one_number (Some t) n k h1 h2 = sym h1.1 ∙ h2.1
 
--- the command of the program is one whose matches are known
-pub bank_is_simple : is_simple bank_app ≡ true
-unfolding clap_on_literals
-bank_is_simple = refl
-
 two_is : (o : Option (Text × List Row)) (name : Text) (rows : List Row)
     → Some name ≡ option_map (λ p. p.0) o → Some rows ≡ option_map (λ p. p.1) o → o ≡ Some (name, rows)
 two_is None name rows n r = cc
@@ -71,6 +66,17 @@ subcommand_is m name rows n r = two_is (subcommand_rows_of m) name rows (n ∙ n
 pub bank_is_free : is_simple_and_free bank_app ≡ true
 unfolding clap_on_literals
 bank_is_free = refl
+
+first_true : (a b : Bool) → (a && b) ≡ true → a ≡ true
+first_true true b both = refl
+first_true false b both = both
+
+simple_of : (a : App) → is_simple_and_free a ≡ true → is_simple a ≡ true
+simple_of a both = first_true (is_simple a) _ both
+
+-- the command of the program is one whose matches are known
+pub bank_is_simple : is_simple bank_app ≡ true
+bank_is_simple = simple_of bank_app bank_is_free
 
 -- so the command that was met is the one that the arguments name
 pub met_by : (app : App) (words : List Text) (m : ArgMatches) → app ≡ bank_app → HasMatchesOf app words m → subcommand_rows_of m ≡ subcommand_of bank_app words

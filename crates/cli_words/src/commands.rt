@@ -2,7 +2,7 @@
 
 ghost use Rattle.std.specs.Prelude.{◌≡◌, IfOk, codes, false};
 ghost use Rattle.bank_terms.specs.Limits.{max_moment};
-ghost use Rattle.clap.specs.Words.{app_of, rule_of};
+ghost use Rattle.clap.specs.Words.{App, app_of, rule_of, with_subcommand};
 ghost use Rattle.clap.specs.declared.builder.Command.TheViews.{out-Command as fields_of};
 ghost use Rattle.cli_words.specs.Commands.{bank_app, check_app, counter_app, flag_rule, forward_app, init_app, max_port, max_requests, number_rule, optional_rule, option_rule, port_rule, run_app, sample_app, serve_app, top_app, upgrade_app, with_places, word_rule};
 
@@ -268,7 +268,8 @@ fn counter_command<'a>(alloc: Global) -> Result<Command<'a>, AllocError>
         )
         .arg(bank_file(alloc))?
         .arg(badges(alloc))?;
-    with_places(alloc, command)?.arg(until_input_ends(alloc))
+    let placed = with_places(alloc, command)?;
+    placed.arg(until_input_ends(alloc))
 }
 
 fn top_command<'a>(alloc: Global) -> Result<Command<'a>, AllocError>
@@ -284,17 +285,27 @@ fn top_command<'a>(alloc: Global) -> Result<Command<'a>, AllocError>
     )
 }
 
+/// The command with another as its subcommand, where that was made.
+fn with_command<'a>(
+    command: Command<'a>,
+    sub: Result<Command<'a>, AllocError>,
+) -> Result<Command<'a>, AllocError>
+    ensures { (app : App) → IfOk sub.entry (λ s. (app_of s ≡ app) × ((fields_of s).has_globals ≡ false))
+        → IfOk result (λ c. app_of c ≡ with_subcommand (app_of command.entry) app.top) }
+{
+    command.subcommand(sub?)
+}
+
 /// The command line of the program.
 pub(crate) fn bank_command<'a>(alloc: Global) -> Result<Command<'a>, AllocError>
     ensures { IfOk result (λ c. app_of c ≡ bank_app) }
 {
-    top_command(alloc)?
-        .subcommand(sample_command(alloc)?)?
-        .subcommand(init_command(alloc)?)?
-        .subcommand(check_command(alloc)?)?
-        .subcommand(upgrade_command(alloc)?)?
-        .subcommand(forward_command(alloc)?)?
-        .subcommand(run_command(alloc)?)?
-        .subcommand(serve_command(alloc)?)?
-        .subcommand(counter_command(alloc)?)
+    let command = with_command(top_command(alloc)?, sample_command(alloc))?;
+    let command = with_command(command, init_command(alloc))?;
+    let command = with_command(command, check_command(alloc))?;
+    let command = with_command(command, upgrade_command(alloc))?;
+    let command = with_command(command, forward_command(alloc))?;
+    let command = with_command(command, run_command(alloc))?;
+    let command = with_command(command, serve_command(alloc))?;
+    with_command(command, counter_command(alloc))
 }

@@ -1,9 +1,9 @@
 //! The actions of the program, and how one is read from its arguments.
 
-ghost use Rattle.std.specs.Prelude.{◌≡◌, ◌<◌, ◌^◌, ℕ, Bool, List, [], IfOk, IfErr, IfSome, IsNone, codes, map, option_map};
+ghost use Rattle.std.specs.Prelude.{◌≡◌, ◌<◌, ◌^◌, ℕ, List, [], IfOk, IfErr, IfSome, IsNone, codes, map, option_map};
 ghost use Rattle.clap.specs.Words.{fault_of, first_of, found_of, rows_of, subcommand_of, subcommand_rows_of};
 ghost use Rattle.counter_places.specs.declared.place.Place.{Place as ThePlace};
-ghost use Rattle.cli_words.specs.Commands.{AsksForward, AsksInit, AsksServed, HasMoment, HasNumber, HasNumberIn, IsFlag, IsNamedBy, IsNamedIn, IsPlaceIn, IsRefusal, NamesNone, bank_app, max_port, max_requests};
+ghost use Rattle.cli_words.specs.Commands.{AsksServed, HasMoment, HasNumber, HasNumberIn, IsFlag, IsNamedBy, IsNamedIn, IsPlaceIn, IsRefusal, NamesNone, bank_app, max_port, max_requests};
 
 use crate::commands::bank_command;
 use clap::error::ErrorKind;
@@ -19,7 +19,7 @@ pub(crate) const MAX_PORT: u64 = 65_535;
 pub(crate) const MAX_REQUESTS: u64 = 1_000_000;
 
 /// What the program is asked to do. A file, a folder and a list are named as they were given.
-#[derive(Clone, Copy, Debug, PartialEq, Eq)]
+#[derive(Clone, Copy)]
 pub enum Action<'a> {
     /// To serve standard input to standard output over the sample bank.
     Sample {
@@ -178,26 +178,6 @@ fn place_in<'a>(found: &ArgMatches<'a>) -> Option<Place<'a>>
     }
 }
 
-/// The file and the folder among the matches of `init`, and whether sums are asked for.
-fn init_in<'a>(found: &ArgMatches<'a>) -> Option<(&'a str, &'a str, bool)>
-    ensures given { IfSome result (λ p. AsksInit (rows_of (found_of found.now)) p.0.now p.1.now p.2) }
-    ensures missing { IsNone result → (file dir : List ℕ) (sums : Bool) → ¬ (AsksInit (rows_of (found_of found.now)) file dir sums) }
-{
-    let file = text_of(found, "file")?;
-    let dir = text_of(found, "dir")?;
-    Some((file, dir, flag_of(found, "sums")))
-}
-
-/// The two files among the matches of `forward`, and whether sums are asked for.
-fn forward_in<'a>(found: &ArgMatches<'a>) -> Option<(&'a str, &'a str, bool)>
-    ensures given { IfSome result (λ p. AsksForward (rows_of (found_of found.now)) p.0.now p.1.now p.2) }
-    ensures missing { IsNone result → (file new : List ℕ) (sums : Bool) → ¬ (AsksForward (rows_of (found_of found.now)) file new sums) }
-{
-    let file = text_of(found, "file")?;
-    let new = text_of(found, "new")?;
-    Some((file, new, flag_of(found, "sums")))
-}
-
 /// The file and the list of badges among the matches of `run`, `serve` and `counter`.
 fn served_in<'a>(found: &ArgMatches<'a>) -> Option<(&'a str, &'a str)>
     ensures given { IfSome result (λ p. AsksServed (rows_of (found_of found.now)) p.0.now p.1.now) }
@@ -208,55 +188,113 @@ fn served_in<'a>(found: &ArgMatches<'a>) -> Option<(&'a str, &'a str)>
     Some((file, badges))
 }
 
+/// What `sample` asks for with these matches, or none where it asks for nothing.
+fn sample_in<'a>(found: &ArgMatches<'_>) -> Option<Action<'a>>
+    ensures named { IfSome result (IsNamedIn (codes "sample") (rows_of (found_of found.now))) }
+    ensures missing { IsNone result → (action : Action) → ¬ (IsNamedIn (codes "sample") (rows_of (found_of found.now)) action) }
+{
+    Some(Action::Sample {
+        moment: moment_in(found)?,
+    })
+}
+
+/// What `init` asks for.
+fn init_in<'a>(found: &ArgMatches<'a>) -> Option<Action<'a>>
+    ensures named { IfSome result (IsNamedIn (codes "init") (rows_of (found_of found.now))) }
+    ensures missing { IsNone result → (action : Action) → ¬ (IsNamedIn (codes "init") (rows_of (found_of found.now)) action) }
+{
+    let file = text_of(found, "file")?;
+    let dir = text_of(found, "dir")?;
+    let sums = flag_of(found, "sums");
+    Some(Action::Init { file, dir, sums })
+}
+
+/// What `check` asks for.
+fn check_in<'a>(found: &ArgMatches<'a>) -> Option<Action<'a>>
+    ensures named { IfSome result (IsNamedIn (codes "check") (rows_of (found_of found.now))) }
+    ensures missing { IsNone result → (action : Action) → ¬ (IsNamedIn (codes "check") (rows_of (found_of found.now)) action) }
+{
+    Some(Action::Check {
+        file: text_of(found, "file")?,
+    })
+}
+
+/// What `upgrade` asks for.
+fn upgrade_in<'a>(found: &ArgMatches<'a>) -> Option<Action<'a>>
+    ensures named { IfSome result (IsNamedIn (codes "upgrade") (rows_of (found_of found.now))) }
+    ensures missing { IsNone result → (action : Action) → ¬ (IsNamedIn (codes "upgrade") (rows_of (found_of found.now)) action) }
+{
+    Some(Action::Upgrade {
+        file: text_of(found, "file")?,
+    })
+}
+
+/// What `forward` asks for.
+fn forward_in<'a>(found: &ArgMatches<'a>) -> Option<Action<'a>>
+    ensures named { IfSome result (IsNamedIn (codes "forward") (rows_of (found_of found.now))) }
+    ensures missing { IsNone result → (action : Action) → ¬ (IsNamedIn (codes "forward") (rows_of (found_of found.now)) action) }
+{
+    let file = text_of(found, "file")?;
+    let new = text_of(found, "new")?;
+    let sums = flag_of(found, "sums");
+    Some(Action::Forward { file, new, sums })
+}
+
+/// What `run` asks for.
+fn run_in<'a>(found: &ArgMatches<'a>) -> Option<Action<'a>>
+    ensures named { IfSome result (IsNamedIn (codes "run") (rows_of (found_of found.now))) }
+    ensures missing { IsNone result → (action : Action) → ¬ (IsNamedIn (codes "run") (rows_of (found_of found.now)) action) }
+{
+    let (file, badges) = served_in(found)?;
+    Some(Action::Run {
+        file,
+        badges,
+        moment: moment_in(found)?,
+    })
+}
+
+/// What `serve` asks for.
+fn serve_in<'a>(found: &ArgMatches<'a>) -> Option<Action<'a>>
+    ensures named { IfSome result (IsNamedIn (codes "serve") (rows_of (found_of found.now))) }
+    ensures missing { IsNone result → (action : Action) → ¬ (IsNamedIn (codes "serve") (rows_of (found_of found.now)) action) }
+{
+    let (file, badges) = served_in(found)?;
+    Some(Action::Serve {
+        file,
+        badges,
+        port: port_in(found)?,
+        requests: requests_in(found)?,
+    })
+}
+
+/// What `counter` asks for.
+fn counter_in<'a>(found: &ArgMatches<'a>) -> Option<Action<'a>>
+    ensures named { IfSome result (IsNamedIn (codes "counter") (rows_of (found_of found.now))) }
+    ensures missing { IsNone result → (action : Action) → ¬ (IsNamedIn (codes "counter") (rows_of (found_of found.now)) action) }
+{
+    let (file, badges) = served_in(found)?;
+    Some(Action::Counter {
+        file,
+        badges,
+        place: place_in(found)?,
+        until_input_ends: flag_of(found, "until-input-ends"),
+    })
+}
+
 /// The action of the subcommand of this name with these matches, or none where they ask for none.
 fn action_in<'a>(name: &str, found: &ArgMatches<'a>) -> Option<Action<'a>>
     ensures named { IfSome result (IsNamedIn name.now (rows_of (found_of found.now))) }
     ensures missing { IsNone result → (action : Action) → ¬ (IsNamedIn name.now (rows_of (found_of found.now)) action) }
 {
     match name {
-        "sample" => Some(Action::Sample {
-            moment: moment_in(found)?,
-        }),
-        "init" => {
-            let (file, dir, sums) = init_in(found)?;
-            Some(Action::Init { file, dir, sums })
-        }
-        "check" => Some(Action::Check {
-            file: text_of(found, "file")?,
-        }),
-        "upgrade" => Some(Action::Upgrade {
-            file: text_of(found, "file")?,
-        }),
-        "forward" => {
-            let (file, new, sums) = forward_in(found)?;
-            Some(Action::Forward { file, new, sums })
-        }
-        "run" => {
-            let (file, badges) = served_in(found)?;
-            Some(Action::Run {
-                file,
-                badges,
-                moment: moment_in(found)?,
-            })
-        }
-        "serve" => {
-            let (file, badges) = served_in(found)?;
-            Some(Action::Serve {
-                file,
-                badges,
-                port: port_in(found)?,
-                requests: requests_in(found)?,
-            })
-        }
-        "counter" => {
-            let (file, badges) = served_in(found)?;
-            Some(Action::Counter {
-                file,
-                badges,
-                place: place_in(found)?,
-                until_input_ends: flag_of(found, "until-input-ends"),
-            })
-        }
+        "sample" => sample_in(found),
+        "init" => init_in(found),
+        "check" => check_in(found),
+        "upgrade" => upgrade_in(found),
+        "forward" => forward_in(found),
+        "run" => run_in(found),
+        "serve" => serve_in(found),
+        "counter" => counter_in(found),
         _ => None,
     }
 }

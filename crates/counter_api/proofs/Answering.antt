@@ -1,5 +1,5 @@
 -- From what the handling of a message came to, and from what was written of its response, to the answer of the counter.
-use Rattle.std.proofs.Common.{◌≡◌, ◌≤◌, ℕ, List, Option, sym, ap, subst, ◌∙◌, length, take, append-nil, ◌++◌, [], arith}
+use Rattle.std.proofs.Common.{◌≡◌, ℕ, List, Option, sym, ap, subst, ◌∙◌, length, append-nil, [], arith}
 use Rattle.std.proofs.lemmas.List.{take_all}
 use Rattle.std.specs.Io.KnownBytes.{Appends}
 use Rattle.money.specs.Counted.{AppendsBeginning}
@@ -13,7 +13,7 @@ pub whole_of : (users : List ℕ → Option ℕ) (old new : Status) (m : MarkedM
     → IsHandled users old new m (λ response. IsWhole (framed m.message response) (framed m.message parts))
 whole_of users old new m parts h = record {
   bears = h.bears;
-  proper = h.proper;
+  timely = h.timely;
   answers = h.answers;
   refused = h.refused;
   moved = h.moved;
@@ -27,7 +27,7 @@ pub begun_of : (users : List ℕ → Option ℕ) (old new : Status) (m : MarkedM
     → IsHandled users old new m (λ response. BeginsWith (framed m.message response) (framed m.message parts))
 begun_of users old new m parts h = record {
   bears = h.bears;
-  proper = h.proper;
+  timely = h.timely;
   answers = h.answers;
   refused = h.refused;
   moved = h.moved;

@@ -10,7 +10,7 @@ use Rattle.store_rows.specs.Status.{Answers, Keeps, Refuses, StaysWhole, Status,
 use Rattle.decide.specs.Permit.{CarriesOut, ChangesNothing, IsDenialOf, IsLeave, IsPermitOf, IsReplyOf, IsSettled, Makes}
 use Rattle.bank_meaning.specs.LastWord.{finds_room}
 use Rattle.bank_meaning.specs.Requests.{effect, executes, first, repeated, reply_text, verdict}
-use Rattle.bank_meaning.specs.Run.{if_allowed, is_accepted, reply, step, told, told_again, unless_repeated}
+use Rattle.bank_meaning.specs.Run.{if_allowed, is_accepted, reply, step, stated, repeated_reply, unless_repeated}
 use Rattle.decide.specs.declared.permit.Denial.{Denial}
 use Rattle.decide.specs.declared.permit.Permit.{Permit}
 use Rattle.decide.specs.declared.permit.Reply.{Reply}
@@ -19,12 +19,12 @@ use Rattle.op_prepare.specs.Judged.{IsReported}
 use Rattle.op_prepare.specs.declared.prepared.Ready.{Ready}
 use Rattle.op_prepare.specs.declared.prepared.Ready.TheVariants as ready
 use Rattle.reports.specs.declared.contents.Contents.{Contents}
-use Rattle.bank_meaning.specs.Meaning.{Verdict, json}
+use Rattle.bank_meaning.specs.Meaning.{json}
 use Rattle.bank_meaning.specs.declared.request.Request.{Request}
-use Rattle.decide.specs.OneRequest.{IsToldInJson, LeavesBoth, Moves, Replies, Settles}
+use Rattle.decide.specs.OneRequest.{IsAnsweredInJson, LeavesBoth, Moves, Replies, Settles}
 use Rattle.counter_api.specs.CarriedOut.{IsCarriedOut, IsResponded}
 use Rattle.counter_api.specs.Response.{ResponseParts, done_parts}
-use Rattle.counter_api.specs.Run.{FindsRoom, IsResponse, told_parts}
+use Rattle.counter_api.specs.Run.{FindsRoom, IsResponse, reply_parts}
 
 -- what is ready changes nothing, where it is a report
 pub nothing_changed : (a : Ready) (c : Contents) → a ≡ ready.Report c → ChangesNothing a
@@ -95,29 +95,29 @@ module _ {S : Type 0} where
   reply_is w q p permit =
       let x = executes p.execution in
       ap (reply w) (sym permit.asked)
-      ∙ ap (λ kept. told_again kept (told (first w x) (reply_text w x))) permit.leave.fresh
-      ∙ ap (λ f. told f (reply_text w x)) permit.leave.allowed
+      ∙ ap (λ kept. repeated_reply kept (stated (first w x) (reply_text w x))) permit.leave.fresh
+      ∙ ap (λ f. stated f (reply_text w x)) permit.leave.allowed
 
-  pub done_told : (old mid new : Status) (q : Request) (p : Permit S) (r : Reply S) (body : List ℕ) → Keeps old mid None → Tells old mid (λ w. IsPermitOf w q p) → CarriesOut mid new p None
-      → IsReplyOf p.ready r → IsText r body → Tells old new (λ w. done_parts (json body) ≡ told_parts (reply w q))
-  done_told old mid new q p r body kept decided carried told text honest w holds =
+  pub done_reported : (old mid new : Status) (q : Request) (p : Permit S) (r : Reply S) (body : List ℕ) → Keeps old mid None → Tells old mid (λ w. IsPermitOf w q p) → CarriesOut mid new p None
+      → IsReplyOf p.ready r → IsText r body → Tells old new (λ w. done_parts (json body) ≡ reply_parts (reply w q))
+  done_reported old mid new q p r body kept decided carried stated text honest w holds =
       let permit = decided (carried.answers.honest honest) w holds in
-      ap done_parts (go p.ready r permit.leave.makes told text) ∙ sym (ap told_parts (reply_is w q p permit))
+      ap done_parts (go p.ready r permit.leave.makes stated text) ∙ sym (ap reply_parts (reply_is w q p permit))
     where
       go : (a : Ready) (r : Reply S) → Makes w (verdict (executes p.execution) w) a → IsReplyOf a r → IsText r body → json body ≡ reply_text w (executes p.execution)
-      go (ready.Change c) (answer.Done d) makes told text = ap json (text ∙ told) ∙ makes.1
-      go (ready.Change c) (answer.Report d) makes told text = absurd text
-      go (ready.Report c) (answer.Done d) makes told text = absurd told
-      go (ready.Report c) (answer.Report d) makes told text = absurd text
+      go (ready.Change c) (answer.Done d) makes stated text = ap json (text ∙ stated) ∙ makes.1
+      go (ready.Change c) (answer.Report d) makes stated text = absurd text
+      go (ready.Report c) (answer.Done d) makes stated text = absurd stated
+      go (ready.Report c) (answer.Report d) makes stated text = absurd text
 
   -- ---- a report
 
   -- what was ready is a report, where the reply is one
   pub ready_is : (a : Ready) (r : Reply S) (c : Contents) → IsReplyOf a r → HasContents r c → a ≡ ready.Report c
-  ready_is (ready.Change p) (answer.Done d) c told has = absurd has
-  ready_is (ready.Change p) (answer.Report d) c told has = absurd told
-  ready_is (ready.Report x) (answer.Done d) c told has = absurd has
-  ready_is (ready.Report x) (answer.Report d) c told has = ap ready.Report (sym told ∙ has)
+  ready_is (ready.Change p) (answer.Done d) c stated has = absurd has
+  ready_is (ready.Change p) (answer.Report d) c stated has = absurd stated
+  ready_is (ready.Report x) (answer.Done d) c stated has = absurd has
+  ready_is (ready.Report x) (answer.Report d) c stated has = ap ready.Report (sym stated ∙ has)
 
   pub permit_reported : (w : WorldLists) (q : Request) (p : Permit S) (c : Contents) → p.ready ≡ ready.Report c → IsPermitOf w q p → IsReported w (verdict q w) c
   permit_reported w q p c is permit =
@@ -128,7 +128,7 @@ module _ {S : Type 0} where
 pub denied_stays : (w : WorldLists) (r : Request) (rule : Rule) → reply w r ≡ Err rule → step w r ≡ w
 denied_stays w r rule = go (repeated w r) (first w r)
   where
-    go : (kept : Option (List ℕ)) (o : Option Rule) → told_again kept (told o (reply_text w r)) ≡ Err rule → unless_repeated kept (if_allowed o (effect w r) w) w ≡ w
+    go : (kept : Option (List ℕ)) (o : Option Rule) → repeated_reply kept (stated o (reply_text w r)) ≡ Err rule → unless_repeated kept (if_allowed o (effect w r) w) w ≡ w
     go None None is = absurd cc
     go None (Some denies) is = refl
     go (Some bytes) o is = refl
@@ -137,7 +137,7 @@ denied_stays w r rule = go (repeated w r) (first w r)
 not_accepted : (w : WorldLists) (r : Request) (rule : Rule) (mark : Option Fault) → reply w r ≡ Err rule → is_accepted w (record { request = r; mark = mark }) ≡ true → ⊥
 not_accepted w r rule mark = go (repeated w r) (first w r) (is_none mark)
   where
-    go : (kept : Option (List ℕ)) (o : Option Rule) (unmarked : Bool) → told_again kept (told o (reply_text w r)) ≡ Err rule → (unmarked && (is_none kept && is_none o)) ≡ true → ⊥
+    go : (kept : Option (List ℕ)) (o : Option Rule) (unmarked : Bool) → repeated_reply kept (stated o (reply_text w r)) ≡ Err rule → (unmarked && (is_none kept && is_none o)) ≡ true → ⊥
     go (Some bytes) o unmarked is accepted = absurd cc
     go None None unmarked is accepted = absurd cc
     go None (Some denies) true is accepted = absurd cc
@@ -145,13 +145,13 @@ not_accepted w r rule mark = go (repeated w r) (first w r) (is_none mark)
 
 -- what is replied to one that is denied, and what a repeat leaves and is replied
 pub denial_replied : (w : WorldLists) (r : Request) (rule : Rule) → repeated w r ≡ None → first w r ≡ Some rule → reply w r ≡ Err rule
-denial_replied w r rule fresh is = ap (λ kept. told_again kept (told (first w r) (reply_text w r))) fresh ∙ ap (λ o. told o (reply_text w r)) is
+denial_replied w r rule fresh is = ap (λ kept. repeated_reply kept (stated (first w r) (reply_text w r))) fresh ∙ ap (λ o. stated o (reply_text w r)) is
 
 pub repeat_stays : (w : WorldLists) (r : Request) (bytes : List ℕ) → repeated w r ≡ Some bytes → step w r ≡ w
 repeat_stays w r bytes is = ap (λ kept. unless_repeated kept (if_allowed (first w r) (effect w r) w) w) is
 
 pub repeat_replied : (w : WorldLists) (r : Request) (bytes : List ℕ) → repeated w r ≡ Some bytes → reply w r ≡ Ok (json bytes)
-repeat_replied w r bytes is = ap (λ kept. told_again kept (told (first w r) (reply_text w r))) is
+repeat_replied w r bytes is = ap (λ kept. repeated_reply kept (stated (first w r) (reply_text w r))) is
 
 -- so nothing is asked of one that is denied
 pub denied_finds : (old new : Status) (r : Request) (rule : Rule) (mark : Option Fault) → Tells old new (λ w. reply w r ≡ Err rule) → Tells old new (FindsRoom r mark)
@@ -161,7 +161,7 @@ denied_finds old new r rule mark denied honest w holds accepted = absurd (not_ac
 pub record IsDecided (old new : Status) (r : Request) (made : Result (Result (Vec ℕ) Rule) Fault) : Type 0 where
   pub answers : Answers old new (mark_of made)
   pub moved : Moves old new r (mark_of made)
-  pub replied : Replies old new r IsToldInJson made
+  pub replied : Replies old new r IsAnsweredInJson made
   pub crash : LeavesBoth old new r
   pub whole : StaysWhole old new
   pub settled : Settles old new r (mark_of made)
@@ -200,7 +200,7 @@ pub responds : (old new : Status) (r : Request) (made : Result (Result (Vec ℕ)
 responds old new r (Ok (Ok text)) response d room is = rw is (record {
   answers = d.answers;
   moved = d.moved;
-  replied = λ honest w holds. sym (ap told_parts (d.replied honest w holds));
+  replied = λ honest w holds. sym (ap reply_parts (d.replied honest w holds));
   room = λ honest w holds accepted. room honest w holds;
   crash = d.crash;
   whole = d.whole;
@@ -212,7 +212,7 @@ responds old new r (Ok (Err rule)) response d room is = elim is [
   | inl denied ↦ rw denied (record {
     answers = d.answers;
     moved = d.moved;
-    replied = λ honest w holds. sym (ap told_parts (d.replied honest w holds));
+    replied = λ honest w holds. sym (ap reply_parts (d.replied honest w holds));
     room = denied_finds old new r rule None d.replied;
     crash = d.crash;
     whole = d.whole;

@@ -1,5 +1,5 @@
 -- Runs one after another are one run.
-use Rattle.std.proofs.Common.{◌≡◌, ℕ, inl, inr, List, [], ◌∷◌, ◌++◌, Option, Some, None, Result, Ok, Err, refl, sym, ap, subst, ◌∙◌}
+use Rattle.std.proofs.Common.{◌≡◌, ℕ, inl, inr, List, [], ◌∷◌, ◌++◌, Option, Some, Result, Ok, Err, refl, sym, ap, subst, ◌∙◌}
 use Rattle.std.proofs.lemmas.List.Elements.{All-append}
 use Rattle.money.specs.declared.fault.Fault.{Fault}
 use Rattle.bank_books.specs.WorldLists.{WorldLists}
@@ -10,12 +10,12 @@ use Rattle.http_messages.specs.declared.serving.Served.{Served}
 use Rattle.store_rows.specs.Status.{Keeps, Status, Tells}
 use Rattle.bank_meaning.proofs.Headline.{headline}
 use Rattle.bank_meaning.specs.Run.{Marked, after_request, world_after}
-use Rattle.bank_meaning.specs.Sums.{AreProper, IsProper}
+use Rattle.bank_meaning.specs.Sums.{IsProper}
 use Rattle.bank_meaning.specs.declared.request.Request.{Request}
 use Rattle.counter_api.specs.Day.{AreReplied, IsDay, answered}
 use Rattle.counter_api.specs.Exit.{IsServed, Place}
-use Rattle.counter_api.specs.Run.{IsPending, IsRun, IsWhole, MarkedMessage, after_message, marked, pending_after, requests_of, stated_by}
-use Rattle.counter_api.proofs.RunLemmas.{after_marked, more_pending, none_ran}
+use Rattle.counter_api.specs.Run.{AreInRange, IsPending, IsRun, IsWhole, MarkedMessage, after_message, marked, pending_after, requests_of, stated_by}
+use Rattle.counter_api.proofs.RunLemmas.{after_marked, more_pending, none_ran, proper_of}
 
 -- ---- the requests of both
 
@@ -54,7 +54,7 @@ day_of_run how users old new ms out run = record {
   moved = run.moved;
   leaves = run.leaves;
   whole = run.whole;
-  proper = run.proper;
+  in_range = run.in_range;
   headline = run.headline;
 }
 
@@ -68,21 +68,21 @@ day_kept users old mid new ms mark here keeps = record {
   moved = λ clean w held. keeps.kept _ (here.moved (keeps.answers.honest clean) w held);
   leaves = λ clean w held left may. here.leaves (keeps.answers.honest clean) w held left (keeps.crash clean left may);
   whole = λ clean w held before. keeps.whole clean (here.whole (keeps.answers.honest clean) w held before);
-  proper = here.proper;
+  in_range = here.in_range;
   headline = here.headline;
 }
 
 pub day_joined : (users : List ℕ → Option ℕ) (old mid new : Status) (ms ns : List MarkedMessage) → IsDay users old mid ms → IsDay users mid new ns → IsDay users old new (ms ++ ns)
-day_joined users old mid new ms ns here behind =
-    let proper : AreProper (requests_of users (ms ++ ns)) =
-    subst AreProper (sym (requests_joined users ms ns)) (All-append (λ m. m.mark ≡ None → IsProper m.request) (requests_of users ms) (requests_of users ns) here.proper behind.proper) in
+day_joined users old mid new ms ns here following =
+    let in_range : AreInRange (requests_of users (ms ++ ns)) =
+    subst AreInRange (sym (requests_joined users ms ns)) (All-append (λ m. IsProper m.request) (requests_of users ms) (requests_of users ns) here.in_range following.in_range) in
     record {
-      honest = λ h. here.honest (behind.honest h);
+      honest = λ h. here.honest (following.honest h);
       moved = λ clean w held.
-          subst (λ v. new.holds v) (sym (world_of_both users w ms ns)) (behind.moved clean _ (here.moved (behind.honest clean) w held));
+          subst (λ v. new.holds v) (sym (world_of_both users w ms ns)) (following.moved clean _ (here.moved (following.honest clean) w held));
       leaves = λ clean w held left may.
-          let honest = behind.honest clean in
-          elim (behind.leaves clean (world_after w (requests_of users ms)) (here.moved honest w held) left may) [
+          let honest = following.honest clean in
+          elim (following.leaves clean (world_after w (requests_of users ms)) (here.moved honest w held) left may) [
             | inl is ↦ inl (is ∙ sym (world_of_both users w ms ns))
             | inr pending ↦ elim (more_pending users mid.may_leave (λ l. IsPending users old.may_leave w ms l) (world_after w (requests_of users ms)) ns (here.leaves honest w held) left pending) [
               | inl is ↦ inl (is ∙ sym (world_of_both users w ms ns))
@@ -90,10 +90,10 @@ day_joined users old mid new ms ns here behind =
             ]
           ];
       whole = λ clean w held before.
-          let honest = behind.honest clean in
-          behind.whole clean _ (here.moved honest w held) (here.whole honest w held before);
-      proper = proper;
-      headline = λ w checks. headline w (requests_of users (ms ++ ns)) checks proper;
+          let honest = following.honest clean in
+          following.whole clean _ (here.moved honest w held) (here.whole honest w held before);
+      in_range = in_range;
+      headline = λ w checks. headline w (requests_of users (ms ++ ns)) checks (proper_of (requests_of users (ms ++ ns)) in_range);
     }
 
 module _ {S C : Type 0} (status : S → Status) (users : List ℕ → Option ℕ) (may_give : C → ℕ → C → Type 0) where

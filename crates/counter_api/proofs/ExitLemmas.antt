@@ -26,17 +26,17 @@ whole_begins whole out is = ([], sym is ∙ sym (append-nil out))
 
 -- a reply in front of others
 front_whole : (front out rest later all : List ℕ) → IsWhole front out → IsWhole rest later → all ≡ out ++ later → IsWhole (front ++ rest) all
-front_whole front out rest later all here behind is = is ∙ ap (λ o. o ++ later) here ∙ ap (λ l. front ++ l) behind
+front_whole front out rest later all here following is = is ∙ ap (λ o. o ++ later) here ∙ ap (λ l. front ++ l) following
 
 front_begins : (front out rest later all : List ℕ) → IsWhole front out → BeginsWith rest later → all ≡ out ++ later → BeginsWith (front ++ rest) all
-front_begins front out rest later all here (more, behind) is =
-    (more, ap (λ o. o ++ rest) (sym here) ∙ ap (λ l. out ++ l) behind ∙ sym (append_assoc out later more) ∙ ap (λ l. l ++ more) (sym is))
+front_begins front out rest later all here (more, following) is =
+    (more, ap (λ o. o ++ rest) (sym here) ∙ ap (λ l. out ++ l) following ∙ sym (append_assoc out later more) ∙ ap (λ l. l ++ more) (sym is))
 
 -- whatever is said of its answer
 unsaid : (users : List ℕ → Option ℕ) (old new : Status) (m : MarkedMessage) (says : ResponseParts → Type 0) → IsHandled users old new m says → IsHandled users old new m (λ response. ⊤)
 unsaid users old new m says h = record {
   bears = h.bears;
-  proper = h.proper;
+  timely = h.timely;
   answers = h.answers;
   refused = h.refused;
   moved = h.moved;
@@ -87,9 +87,9 @@ module _ {E S C : Type 0} (store : E → S) (clock : E → C) (status : S → St
   all_ran : (old new : E) (ms : List WholeMessage) (out : List ℕ) → IsOne old → AnswersAll answers old ms out new → HasRun old new ms out
   all_ran old new [] out one (nothing, same) =
       subst (λ n. HasRun old n [] out) (sym same) (subst (λ o. HasRun old old [] o) (sym nothing) (none_answered old one))
-  all_ran old new (m ∷ ms) out one (mid, reply, later, here, is, behind) =
-      let told = tells old mid (message_parts m) reply one here in
-      in_front old mid new m ms reply later out told.1 (all_ran mid new ms later told.0 behind) is
+  all_ran old new (m ∷ ms) out one (mid, reply, later, here, is, following) =
+      let stated = tells old mid (message_parts m) reply one here in
+      in_front old mid new m ms reply later out stated.1 (all_ran mid new ms later stated.0 following) is
 
   -- messages, and one more that was answered last, of whose reply a beginning went out
   record HasRunLast (old new : E) (before : List WholeMessage) (last : WholeMessage) (replies sent : List ℕ) : Type 0 where
@@ -126,24 +126,24 @@ module _ {E S C : Type 0} (store : E → S) (clock : E → C) (status : S → St
       → ((start : E) → IsOne start → mid ≡ start → IsOne new × IsAnswered BeginsWith users may_give (status (store start)) (status (store new)) (clock start) (clock new) (message_parts last) sent)
       → HasRunLast old new before last replies sent
   last_ran old mid new [] last replies sent one (nothing, same) here =
-      let told = here old one same in
-      subst (λ o. HasRunLast old new [] last o sent) (sym nothing) (alone old new last sent told.0 told.1)
-  last_ran old mid new (m ∷ ms) last replies sent one (next, first, later, there, is, behind) here =
-      let told = tells old next (message_parts m) first one there in
-      let rest = last_ran next mid new ms last later sent told.0 behind here in
-      let lead : MarkedMessage = record { message = message_parts m; moment = told.1.moment; mark = told.1.mark } in
+      let stated = here old one same in
+      subst (λ o. HasRunLast old new [] last o sent) (sym nothing) (alone old new last sent stated.0 stated.1)
+  last_ran old mid new (m ∷ ms) last replies sent one (next, first, later, there, is, following) here =
+      let stated = tells old next (message_parts m) first one there in
+      let rest = last_ran next mid new ms last later sent stated.0 following here in
+      let lead : MarkedMessage = record { message = message_parts m; moment = stated.1.moment; mark = stated.1.mark } in
       record {
         run = lead ∷ rest.run;
         at = rest.at;
         marked = ap (λ xs. message_parts m ∷ xs) rest.marked;
-        given = (clock next, told.1.given, rest.given);
+        given = (clock next, stated.1.given, rest.given);
         ran = one_more BeginsWith users (status (store old)) (status (store next)) (status (store new)) lead (rest.run ++ rest.at ∷ []) (λ response. IsWhole (framed (message_parts m) response) first) (later ++ sent) (replies ++ sent)
-            (λ response after h b. front_begins (framed (message_parts m) response) first after (later ++ sent) (replies ++ sent) h b (ap (λ r. r ++ sent) is ∙ append_assoc first later sent)) told.1.handled rest.ran;
-        passed = (store next, unsaid users (status (store old)) (status (store next)) lead _ told.1.handled, rest.passed);
+            (λ response after h b. front_begins (framed (message_parts m) response) first after (later ++ sent) (replies ++ sent) h b (ap (λ r. r ++ sent) is ∙ append_assoc first later sent)) stated.1.handled rest.ran;
+        passed = (store next, unsaid users (status (store old)) (status (store next)) lead _ stated.1.handled, rest.passed);
         replied = λ clean w held.
             let honest = rest.ran.honest clean in
-            is ∙ ap (λ r. r ++ later) (told.1.handled.replied honest w held)
-            ∙ ap (λ o. reply_to users w lead ++ o) (rest.replied clean (after_message users w lead) (told.1.handled.moved honest w held));
+            is ∙ ap (λ r. r ++ later) (stated.1.handled.replied honest w held)
+            ∙ ap (λ o. reply_to users w lead ++ o) (rest.replied clean (after_message users w lead) (stated.1.handled.moved honest w held));
         one = rest.one;
       }
 
@@ -167,7 +167,7 @@ module _ {E S C : Type 0} (store : E → S) (clock : E → C) (status : S → St
     given = a.given;
     handled = record {
       bears = a.handled.bears;
-      proper = a.handled.proper;
+      timely = a.handled.timely;
       answers = a.handled.answers;
       refused = a.handled.refused;
       moved = a.handled.moved;
@@ -187,7 +187,7 @@ module _ {E S C : Type 0} (store : E → S) (clock : E → C) (status : S → St
     given = a.given;
     handled = record {
       bears = a.handled.bears;
-      proper = a.handled.proper;
+      timely = a.handled.timely;
       answers = a.handled.answers;
       refused = a.handled.refused;
       moved = a.handled.moved;
@@ -211,24 +211,24 @@ module _ {E S C : Type 0} (store : E → S) (clock : E → C) (status : S → St
   pub exits : (most : ℕ) (old new : Point E) (r : Result Served ServeFault) → IsOne old.engine → IsExit answers stops breaks most old new r
       → IsServed status users may_give most (place old) (place new) r × IsOne new.engine
   exits most old new (Ok s) one (ms, rest, out, r, how) =
-      let told = reads old new ms rest out one r in
-      ((ms, rest, told.0.0, out, told.0.1, how), told.1)
+      let stated = reads old new ms rest out one r in
+      ((ms, rest, stated.0.0, out, stated.0.1, how), stated.1)
   exits most old new (Err Read) one (ms, rest, out, r, on, part, wrote) =
-      let told = reads old new ms rest out one r in
-      ((ms, rest, told.0.0, out, told.0.1, on, part, wrote), told.1)
+      let stated = reads old new ms rest out one r in
+      ((ms, rest, stated.0.0, out, stated.0.1, on, part, wrote), stated.1)
   exits most old new (Err Cut) one (ms, rest, out, r, on, part, some, ended, wrote) =
-      let told = reads old new ms rest out one r in
-      ((ms, rest, told.0.0, out, told.0.1, on, part, some, ended, wrote), told.1)
+      let stated = reads old new ms rest out one r in
+      ((ms, rest, stated.0.0, out, stated.0.1, on, part, some, ended, wrote), stated.1)
   exits most old new (Err Write) one (inl in_reply) =
-      stopped answers (λ start next m reply n first answered. let told = tells start next m reply first answered in (told.0, begun start next m reply n told.1)) most old new one in_reply
+      stopped answers (λ start next m reply n first answered. let stated = tells start next m reply first answered in (stated.0, begun start next m reply n stated.1)) most old new one in_reply
   exits most old new (Err Write) one (inr (inl in_reply)) =
-      stopped stops (λ start next m reply n first begins. let told = tells_begun start next m reply first begins in (told.0, begun_shorter start next m reply n told.1)) most old new one in_reply
+      stopped stops (λ start next m reply n first begins. let stated = tells_begun start next m reply first begins in (stated.0, begun_shorter start next m reply n stated.1)) most old new one in_reply
   exits most old new (Err Write) one (inr (inr (ms, rest, out, reply, r, on, refused, stops))) =
-      let told = reads old new ms rest out one r in
-      (inr (ms, rest, told.0.0, out, reply, told.0.1, on, refused, stops), told.1)
+      let stated = reads old new ms rest out one r in
+      (inr (ms, rest, stated.0.0, out, reply, stated.0.1, on, refused, stops), stated.1)
   exits most old new (Err Report) one (before, last, rest, replies, sent, r, on, wrote) =
       let run = all_ran old.engine r.mid before replies one r.answered in
-      let told = tells_broken r.mid new.engine (message_parts last) sent run.one r.reached in (
+      let stated = tells_broken r.mid new.engine (message_parts last) sent run.one r.reached in (
         (
           before,
           last,
@@ -246,12 +246,12 @@ module _ {E S C : Type 0} (store : E → S) (clock : E → C) (status : S → St
             given = run.given;
             ran = run.ran;
             passed = run.passed;
-            broken = told.1;
+            broken = stated.1;
             bounded = r.bounded;
           },
           on,
           wrote,
         ),
-        told.0,
+        stated.0,
       )
   exits most old new (Err Memory) one same = (ap place same, subst (λ p. IsOne p.engine) (sym same) one)

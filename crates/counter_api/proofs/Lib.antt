@@ -8,4 +8,3 @@ pub mod Answering
 pub mod Handled
 pub mod Replies
 pub mod Reported
-pub mod StepLemmas

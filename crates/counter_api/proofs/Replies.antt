@@ -1,5 +1,5 @@
 -- The reply of a report is its head, which is known before the text, and the text after it.
-use Rattle.std.proofs.Common.{◌≡◌, ℕ, Bool, true, false, inl, inr, arith, List, [], ◌∷◌, ◌++◌, length, take, take-append-drop, drop, codes, decimal, Option, None, append-nil, append_assoc, refl, sym, ap, ◌∙◌, subst}
+use Rattle.std.proofs.Common.{◌≡◌, ℕ, Bool, true, false, inl, inr, arith, List, [], ◌∷◌, ◌++◌, length, take, take-append-drop, drop, codes, decimal, None, append-nil, append_assoc, refl, sym, ap, ◌∙◌, subst}
 use Rattle.std.specs.List.{concat}
 use Rattle.http.specs.StatusCode.{code_digits}
 use Rattle.money.specs.Counted.{CountsFailure}

@@ -1,6 +1,5 @@
 -- What a request comes to that is answered by a report, from its decision to what went out of it.
-use Rattle.std.proofs.Common.{◌≡◌, ℕ, true, inl, inr, List, Option, Some, None, Result, Ok, Err, IsNone, IsSome, IsTrue, refl, sym, ap, subst, ◌∙◌}
-use Rattle.std.specs.Io.KnownBytes.{Appends}
+use Rattle.std.proofs.Common.{◌≡◌, ℕ, true, inl, inr, List, Option, Some, None, Result, Ok, IsSome, IsTrue, sym, ap, subst, ◌∙◌}
 use Rattle.bank_terms.specs.declared.rule.Rule.{Rule}
 use Rattle.bank_books.specs.WorldLists.{WorldLists}
 use Rattle.money.specs.declared.fault.Fault.{Fault}
@@ -10,7 +9,7 @@ use Rattle.store_rows.specs.Status.{Keeps, Status, Tells}
 use Rattle.bank_meaning.specs.LastWord.{finds_room}
 use Rattle.bank_meaning.specs.Meaning.{ReplyText, plain}
 use Rattle.bank_meaning.specs.Requests.{effect, first, repeated, reply_text, verdict}
-use Rattle.bank_meaning.specs.Run.{if_allowed, reply, step, told, told_again, unless_repeated}
+use Rattle.bank_meaning.specs.Run.{if_allowed, reply, step, stated, repeated_reply, unless_repeated}
 use Rattle.bank_meaning.specs.declared.request.Request.{Request}
 use Rattle.op_prepare.specs.Judged.{IsReported}
 use Rattle.reports.specs.Report.{BeginsWith, IsCounted, text_of}
@@ -18,9 +17,8 @@ use Rattle.reports.specs.declared.contents.Contents.{Contents}
 use Rattle.reports.proofs.StatusLemmas.{keeps_then}
 use Rattle.requests.specs.Request.{IsReport}
 use Rattle.counter_api.proofs.RunLemmas.{rose_then}
-use Rattle.counter_api.specs.CarriedOut.{BreaksOff, IsCarried, IsCarriedOut, IsSent}
-use Rattle.counter_api.specs.Response.{done_parts}
-use Rattle.counter_api.specs.Run.{FindsRoom, IsWhole, framed, told_parts}
+use Rattle.counter_api.specs.CarriedOut.{IsCarried, IsCarriedOut, IsSent}
+use Rattle.counter_api.specs.Run.{IsWhole, framed, reply_parts}
 use Rattle.counter_api.specs.Sent.{CountsBreak, IsStreamed, fault_of, report_reply, went}
 use Rattle.counter_api.specs.declared.counter.Outcome.TheVariants as outcome
 use Rattle.counter_api.specs.declared.sent.Sent.{Sent}
@@ -29,8 +27,8 @@ use Rattle.counter_api.specs.declared.sent.Sent.TheVariants as sent
 module _ (w : WorldLists) (q : Request) (c : Contents) (fresh : repeated w q ≡ None) (is : IsReported w (verdict q w) c) where
   pub reply_is : reply w q ≡ Ok (plain (text_of w c))
   reply_is =
-      ap (λ kept. told_again kept (told (first w q) (reply_text w q))) fresh
-      ∙ ap (λ f. told f (reply_text w q)) is.allowed
+      ap (λ kept. repeated_reply kept (stated (first w q) (reply_text w q))) fresh
+      ∙ ap (λ f. stated f (reply_text w q)) is.allowed
       ∙ ap (λ t. Ok t) (sym is.reply)
 
   pub step_is_none : step w q ≡ w
@@ -45,12 +43,12 @@ module _ (a b e : Status) (before after : Option (List ℕ)) (m : MessageParts) 
     (refused : IsSome q.who.user → IsTrue a.is_stopped → None ≡ Some Stopped) (asks : IsReport q.asked) where
   -- what went out, of each World
   sent_is : (how : Sent) (bytes : List ℕ) → Keeps b e (fault_of how) → Tells b e (λ w. IsCounted w c → went how (report_reply m (text_of w c)) bytes)
-      → Tells a e (λ w. went how (framed m (told_parts (reply w q))) bytes)
+      → Tells a e (λ w. went how (framed m (reply_parts (reply w q))) bytes)
   sent_is how bytes on out clean w held =
       let is = reported (on.answers.honest clean) w held in
-      subst (λ (r : Result ReplyText Rule). went how (framed m (told_parts r)) bytes) (sym (reply_is w q c (fresh (on.answers.honest clean) w held) is)) (out clean w (kept.kept w held) is.counted)
+      subst (λ (r : Result ReplyText Rule). went how (framed m (reply_parts r)) bytes) (sym (reply_is w q c (fresh (on.answers.honest clean) w held) is)) (out clean w (kept.kept w held) is.counted)
 
-  carried : (says : List ℕ → List ℕ → Type 0) (bytes : List ℕ) → Keeps a e None → Tells a e (λ w. says (framed m (told_parts (reply w q))) bytes) → Tells a e (λ w. step w q ≡ w)
+  carried : (says : List ℕ → List ℕ → Type 0) (bytes : List ℕ) → Keeps a e None → Tells a e (λ w. says (framed m (reply_parts (reply w q))) bytes) → Tells a e (λ w. step w q ≡ w)
       → IsCarriedOut (IsSent says m) a e q (Ok bytes)
   carried says bytes on out same = record {
     answers = on.answers;

@@ -25,20 +25,18 @@ pub record IsBroken {C : Type 0} (users : List ℕ → Option ℕ) (may_give : C
   pub allowed : Tells old new (λ w. IsOkAnd (request_of users moment message) (λ r. first w r ≡ None))
   pub begun : Tells old new (λ w. BeginsWith (reply_to users w (record { message = message; moment = moment; mark = None })) sent)
 
--- The clock of the first counter may give this moment, which leaves the second; bank, clock and gate are the same references.
+-- The clock of the first counter may give this moment, which leaves the second; its gate stays.
 pub record CounterGives {S G C : Type 0} (may_give : C → ℕ → C → Type 0) (old : Counter S G C) (moment : ℕ) (new : Counter S G C) : Type 0 where
-  pub given : may_give old.clock.now moment new.clock.now
-  pub same_bank : new.bank.ghost_name ≡ old.bank.ghost_name
-  pub same_clock : new.clock.ghost_name ≡ old.clock.ghost_name
-  pub same_gate : new.gate ≡ old.gate
+  pub given : may_give old.clock moment new.clock
+  pub same_gate : new.clerk.gate ≡ old.clerk.gate
 
 module _ {S G C : Type 0} (status : S → Status) (users : G → List ℕ → Option ℕ) (may_give : C → ℕ → C → Type 0) where
   -- the message was answered over its bank, at a moment of its clock, and these bytes stand so to its reply
   abbrev pub CounterAnswers : (List ℕ → List ℕ → Type 0) → Counter S G C → MessageParts → List ℕ → Counter S G C → Type 0
   CounterAnswers how old message out new =
-      IsAnswered how (users old.gate.now) (CounterGives may_give) (status old.bank.now.store) (status new.bank.now.store) old new message out
+      IsAnswered how (users old.clerk.gate) (CounterGives may_give) (status old.bank.store) (status new.bank.store) old new message out
 
   -- its reply broke, after these bytes
   abbrev pub CounterBreaks : Counter S G C → MessageParts → List ℕ → Counter S G C → Type 0
   CounterBreaks old message sent new =
-      IsBroken (users old.gate.now) (CounterGives may_give) (status old.bank.now.store) (status new.bank.now.store) old new message sent
+      IsBroken (users old.clerk.gate) (CounterGives may_give) (status old.bank.store) (status new.bank.store) old new message sent

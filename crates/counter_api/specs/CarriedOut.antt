@@ -16,7 +16,7 @@ use Rattle.decide.specs.OneRequest.{LeavesBoth, Moves, Replies, Settles}
 use Rattle.reports.specs.Report.{BeginsWith}
 use Rattle.requests.specs.Request.{IsReport}
 use Rattle.counter_api.specs.Response.{ResponseParts, denied_parts, done_parts}
-use Rattle.counter_api.specs.Run.{FindsRoom, IsResponse, IsWhole, RefusesRequest, framed, told_parts}
+use Rattle.counter_api.specs.Run.{FindsRoom, IsResponse, IsWhole, RefusesRequest, framed, reply_parts}
 use Rattle.counter_api.specs.Sent.{CountsBySent, HasHead}
 use Rattle.counter_api.specs.declared.counter.Outcome.{Outcome}
 use Rattle.counter_api.specs.declared.counter.Outcome.TheVariants as outcome
@@ -45,7 +45,7 @@ IsResponded (Err fault) response = response ≡ Err fault
 
 -- the bytes that went out stand so to the reply, framed as the message asks for it
 abbrev pub IsSent : (List ℕ → List ℕ → Type 0) → MessageParts → Result ReplyText Rule → List ℕ → Type 0
-IsSent how m reply bytes = how (framed m (told_parts reply)) bytes
+IsSent how m reply bytes = how (framed m (reply_parts reply)) bytes
 
 -- A fault broke the reply to a request off, which asks for a report and which no rule denies, once its head had gone
 -- out: what went out is a beginning of it, of each World that the store represented. It represents the same World, and
@@ -56,7 +56,7 @@ pub record BreaksOff (old new : Status) (r : Request) (m : MessageParts) (fault 
   pub cause : Tells old new (λ w. RoseBy 1 old.fault_count new.fault_count)
   pub headed : HasHead m bytes
   pub allowed : Tells old new (λ w. first w r ≡ None)
-  pub begun : Tells old new (λ w. BeginsWith (framed m (told_parts (reply w r))) bytes)
+  pub begun : Tells old new (λ w. BeginsWith (framed m (reply_parts (reply w r))) bytes)
 
 -- A request was carried out, and its response is still to be written; or it is answered by a report, and so much of that went out.
 abbrev pub IsCarried : Status → Status → Option (List ℕ) → Option (List ℕ) → MessageParts → Request → Result Outcome Fault → Type 0

@@ -10,9 +10,9 @@ use Rattle.reports.specs.Report.{BeginsWith}
 use Rattle.store_rows.specs.Status.{StaysWhole, Status, Tells}
 use Rattle.bank_meaning.specs.Headline.{IsHeadline}
 use Rattle.bank_meaning.specs.Run.{world_after}
-use Rattle.bank_meaning.specs.Sums.{AreProper, PassesChecks}
+use Rattle.bank_meaning.specs.Sums.{PassesChecks}
 use Rattle.counter_api.specs.Exit.{IsServed, Place}
-use Rattle.counter_api.specs.Run.{IsPending, MarkedMessage, replies_to, reply_to, requests_of}
+use Rattle.counter_api.specs.Run.{AreInRange, IsPending, MarkedMessage, replies_to, reply_to, requests_of}
 
 -- What messages, one after another, made of a store. Of each World that it represented: it represents the World after
 -- their requests, and each request was treated rightly at its place.
@@ -22,7 +22,8 @@ pub record IsDay (users : List ℕ → Option ℕ) (old new : Status) (ms : List
   -- A crash leaves that World, or one that is pending: no change that was carried out is undone.
   pub leaves : Tells old new (λ w. (left : WorldLists) → new.may_leave left → (left ≡ world_after w (requests_of users ms)) ⊎ IsPending users old.may_leave w ms left)
   pub whole : StaysWhole old new
-  pub proper : AreProper (requests_of users ms)
+  -- The requests are in range, those too that a fault kept from being made.
+  pub in_range : AreInRange (requests_of users ms)
   pub headline : (w : WorldLists) → PassesChecks w → IsHeadline w (requests_of users ms)
 
 module _ {S C : Type 0} (status : S → Status) (users : List ℕ → Option ℕ) (may_give : C → ℕ → C → Type 0) where

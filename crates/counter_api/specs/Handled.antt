@@ -31,7 +31,7 @@ pub record IsBrokenOff (users : List ℕ → Option ℕ) (old new : Status) (mes
 -- Its response, or the fault that takes its place, is still to be written; or it is answered by a report, and so much of that went out.
 abbrev pub IsDone : (List ℕ → Option ℕ) → Status → Status → Option (List ℕ) → Option (List ℕ) → MessageParts → ℕ → Result Outcome Fault → Type 0
 IsDone users old new before after m moment (Err fault) = IsHandled users old new (record { message = m; moment = moment; mark = Some fault }) (λ response. faulted_parts fault ≡ response)
-IsDone users old new before after m moment (Ok (outcome.Response told)) = IsHandled users old new (record { message = m; moment = moment; mark = None }) (λ response. told ≡ response)
+IsDone users old new before after m moment (Ok (outcome.Response stated)) = IsHandled users old new (record { message = m; moment = moment; mark = None }) (λ response. stated ≡ response)
 IsDone users old new before after m moment (Ok (outcome.Report sent.Whole)) =
     (bytes : List ℕ) × Appends before after bytes × IsHandled users old new (record { message = m; moment = moment; mark = None }) (λ response. IsWhole (framed m response) bytes)
 IsDone users old new before after m moment (Ok (outcome.Report sent.Stopped)) =

@@ -7,4 +7,3 @@ pub mod Handled
 pub mod Response
 pub mod Run
 pub mod Sent
-pub mod Step

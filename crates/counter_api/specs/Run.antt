@@ -1,7 +1,8 @@
 -- Messages one after another: the requests that they state, and the replies to them.
-use Rattle.std.specs.Prelude.{ℕ, ◌≡◌, ◌⊎◌, ◌+◌, ◌≤◌, Bool, true, IsTrue, List, [], ◌∷◌, ◌++◌, Option, Some, None, IsNone, IsSome, Result, Ok, Err, IfOk, ⊤}
+use Rattle.std.specs.Prelude.{ℕ, ◌≡◌, ◌⊎◌, ◌+◌, ◌≤◌, Bool, true, IsTrue, All, List, [], ◌∷◌, ◌++◌, Option, Some, None, IsNone, IsSome, Result, Ok, Err, IfOk, ⊤}
 use Rattle.money.specs.declared.fault.Fault.{Fault}
 use Rattle.money.specs.declared.fault.Fault.TheVariants.{Memory, Stopped}
+use Rattle.bank_terms.specs.Limits.{max_moment}
 use Rattle.bank_terms.specs.declared.rule.Rule.{Rule}
 use Rattle.bank_books.specs.WorldLists.{WorldLists}
 use Rattle.http_heads.specs.Framing.{asks_head, closes}
@@ -10,10 +11,10 @@ use Rattle.http_messages.specs.Parts.{MessageParts}
 use Rattle.http_messages.specs.Reply.{reply_bytes}
 use Rattle.store_rows.specs.Status.{Answers, RoseBy, StaysWhole, Status, Tells, counts, counts_at_most, failures_after, stops}
 use Rattle.bank_meaning.specs.Headline.{IsHeadline}
-use Rattle.bank_meaning.specs.LastWord.{finds_room, heard}
+use Rattle.bank_meaning.specs.LastWord.{finds_room, effective}
 use Rattle.bank_meaning.specs.Meaning.{ReplyText}
 use Rattle.bank_meaning.specs.Run.{Marked, accepted, is_accepted, reply, step, world_after}
-use Rattle.bank_meaning.specs.Sums.{AreProper, IsProper, PassesChecks}
+use Rattle.bank_meaning.specs.Sums.{IsProper, PassesChecks}
 use Rattle.bank_meaning.specs.declared.request.Request.{Request}
 use Rattle.requests.specs.Request.{request_of}
 use Rattle.counter_api.specs.Response.{ResponseParts, denied_parts, done_parts, faulted_parts, refused_parts}
@@ -29,18 +30,22 @@ abbrev pub marked : Result Request MessageFault → Option Fault → List Marked
 marked (Ok r) mark rest = record { request = r; mark = mark } ∷ rest
 marked (Err fault) mark rest = rest
 
+-- These requests are in range, those too that a fault kept from being made.
+abbrev pub AreInRange : List Marked → Type 0
+AreInRange = All (λ m. IsProper m.request)
+
 -- the text, or the rule, as a reply
-abbrev pub told_parts : Result ReplyText Rule → ResponseParts
-told_parts (Ok text) = done_parts text
-told_parts (Err rule) = denied_parts rule
+abbrev pub reply_parts : Result ReplyText Rule → ResponseParts
+reply_parts (Ok text) = done_parts text
+reply_parts (Err rule) = denied_parts rule
 
 abbrev pub IsResponse : Result ReplyText Rule → ResponseParts → Type 0
-IsResponse reply parts = parts ≡ told_parts reply
+IsResponse reply parts = parts ≡ reply_parts reply
 
 -- what a message is answered in a World
 abbrev pub response_to : WorldLists → Result Request MessageFault → Option Fault → ResponseParts
 response_to w stated (Some fault) = faulted_parts fault
-response_to w (Ok r) None = told_parts (reply w r)
+response_to w (Ok r) None = reply_parts (reply w r)
 response_to w (Err fault) None = refused_parts fault
 
 -- the bytes that went out are the whole of what was to go out
@@ -94,10 +99,11 @@ module _ (users : List ℕ → Option ℕ) where
   replies_to w [] = []
   replies_to w (m ∷ ms) = reply_to w m ++ replies_to (after_message w m) ms
 
-  -- What one message makes of a store, and what is said of its answer, of each World that the store stood for. A request that is made is proper.
+  -- What one message makes of a store, and what is said of its answer, of each World that the store stood for. Its moment is in range; so the request that
+  -- it states is, too.
   pub record IsHandled (old new : Status) (m : MarkedMessage) (says : ResponseParts → Type 0) : Type 0 where
     pub bears : MayBear (stated_by m) m.mark
-    pub proper : m.mark ≡ None → IfOk (stated_by m) IsProper
+    pub timely : m.moment ≤ max_moment
     pub answers : Answers old new m.mark
     pub refused : IfOk (stated_by m) (λ r. IsSome r.who.user → RefusesRequest old.is_stopped m.mark)
     pub moved : Tells old new (λ w. new.holds (after_message w m))
@@ -150,13 +156,13 @@ pub record IsRun (how : List ℕ → List ℕ → Type 0) (users : List ℕ → 
   pub moved : Tells old new (λ w. new.holds (world_after w (requests_of users ms)))
   pub replied : Tells old new (λ w. how (replies_to users w ms) out)
   -- each command that is accepted takes effect: none that changed nothing is reported as made
-  pub all_heard : Tells old new (λ w. heard w (requests_of users ms) ≡ accepted w (requests_of users ms))
+  pub all_effective : Tells old new (λ w. effective w (requests_of users ms) ≡ accepted w (requests_of users ms))
   -- A crash leaves the World that stands, or one that is pending: no change that was carried out is undone.
   pub leaves : Tells old new (λ w. (left : WorldLists) → new.may_leave left → (left ≡ world_after w (requests_of users ms)) ⊎ IsPending users old.may_leave w ms left)
   -- and it leaves Worlds alone, where it did before
   pub whole : StaysWhole old new
-  -- the requests that were made are proper: their members and their moments are in their ranges
-  pub proper : AreProper (requests_of users ms)
+  -- the members, the moment and the slip of each request are in their ranges
+  pub in_range : AreInRange (requests_of users ms)
   -- and where the checks passed before, each request is carried out exactly where it is held, the first rule against any other is
   -- named, the sums agree, the policy is the one in force by last word, and what bears a slip acts once
   pub headline : (w : WorldLists) → PassesChecks w → IsHeadline w (requests_of users ms)

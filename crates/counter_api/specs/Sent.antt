@@ -1,5 +1,5 @@
 -- How far the reply of a report went out.
-use Rattle.std.specs.Prelude.{◌≡◌, ℕ, List, Option, Some, None, codes, ⊤}
+use Rattle.std.specs.Prelude.{ℕ, List, Option, Some, None, codes, ⊤}
 use Rattle.std.specs.Io.KnownBytes.{Appends}
 use Rattle.money.specs.declared.fault.Fault.{Fault}
 use Rattle.money.specs.declared.tallied.Tallied.{Tallied}

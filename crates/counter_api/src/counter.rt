@@ -1,6 +1,6 @@
 //! A bank that answers messages: it decides the request that each states, carries it out, and replies.
 
-ghost use Rattle.std.specs.Prelude.{◌≡◌, ◌≤◌, OnErr, OnOk};
+ghost use Rattle.std.specs.Prelude.{◌≡◌, ◌≤◌, IfErr, IfOk, OnErr, OnOk};
 ghost use Rattle.bank_terms.specs.Limits.{max_moment};
 ghost use Rattle.std.specs.Io.KnownBytes.{Appends};
 ghost use Rattle.money.specs.Counted.{AppendsBeginning, stream_of};
@@ -24,19 +24,79 @@ use std::alloc::Global;
 use std::io::Write;
 use store_rows::{Bank, Store};
 
-/// A bank that answers messages.
+/// A bank that answers messages: its store, what gives the moments, and who may ask for what.
 #[derive(Drop)]
-pub struct Counter<'b, 'g, 'c, 'r, S, G, C> {
+pub struct Counter<S, G, C> {
+    /// The bank.
+    pub bank: Bank<S>,
+    /// What gives the moments.
+    pub clock: C,
+    /// What reads the messages.
+    pub clerk: Clerk<G>,
+}
+
+impl<S, G: Gate + Copy, C> Counter<S, G, C> {
+    /// A counter over a store. If memory is refused for its paths, the store and the clock are handed back.
+    pub fn new(alloc: Global, store: S, asking: Asking<G, C>) -> Result<Counter<S, G, C>, (S, C)>
+        ensures store { IfOk result (λ c. c.bank.store ≡ store) }
+        ensures clock { IfOk result (λ c. c.clock ≡ asking.moments) }
+        ensures gate { IfOk result (λ c. c.clerk.gate ≡ asking.gate) }
+        ensures returned { IfErr result (λ parts. (parts.0 ≡ store) × (parts.1 ≡ asking.moments)) }
+    {
+        let Asking { gate, moments } = asking;
+        match Routes::new(alloc) {
+            Ok(routes) => Ok(Counter {
+                bank: Bank { store },
+                clock: moments,
+                clerk: Clerk {
+                    alloc,
+                    gate,
+                    routes,
+                },
+            }),
+            Err(_) => Err((store, moments)),
+        }
+    }
+
+    /// Its store and its clock, as it leaves them.
+    pub fn into_parts(self) -> (S, C)
+        ensures store { result.0 ≡ self.bank.store }
+        ensures clock { result.1 ≡ self.clock }
+    {
+        let Counter {
+            bank: Bank { store },
+            clock,
+            clerk: _,
+        } = self;
+        (store, clock)
+    }
+}
+
+/// Who may ask a counter, and what gives the moments.
+#[derive(Drop)]
+pub struct Asking<G, M> {
+    /// What names users for the badges.
+    pub gate: G,
+    /// A clock, or one moment for all messages.
+    pub moments: M,
+}
+
+/// What reads the messages of a counter, and has its bank do what they ask for.
+#[derive(Drop)]
+pub struct Clerk<G> {
     /// The memory in which it works.
     pub alloc: Global,
-    /// The bank.
-    pub bank: &'b mut Bank<S>,
     /// What names users for the badges.
-    pub gate: &'g G,
-    /// What gives the moments.
-    pub clock: &'c mut C,
+    pub gate: G,
     /// The paths that it knows.
-    pub routes: &'r Routes,
+    routes: Routes,
+}
+
+/// Who asks, and when.
+#[derive(Clone, Copy)]
+struct Asker {
+    who: Who,
+    moment: u64,
 }
 
 /// What a request came to.
@@ -47,26 +107,84 @@ enum Outcome {
     Report(Sent),
 }
 
-/// Decides a request, and carries it out where it is allowed: the reply to it, which is still to be
-/// written, but for a report; or the fault that kept it from being made.
-fn carried_out<S: Store, W: Write>(
-    bank: &mut Bank<S>,
-    alloc: Global,
-    request: Request,
-    message: &Message<'_>,
-    writer: &mut Tallied<W>,
-) -> Result<Outcome, Fault>
-    requires { IsProper request }
-    ensures carried { IsCarried (S.status bank.old.store) (S.status bank.new.store) (W.contents (stream_of writer.old)) (W.contents (stream_of writer.new)) message.now request result }
-    ensures writer { KeepsWriter writer.old writer.new result }
-{
-    let Request { who, moment, asked } = request;
-    match asked {
-        Asked::Operation(op) => operation_done(bank, alloc, who, moment, &op, message, writer),
-        Asked::Opening => outcome_of(session_opened(bank, alloc, who, moment)),
-        Asked::Ending => outcome_of(session_ended(bank, alloc, who, moment)),
-        Asked::Command(command) => outcome_of(command_done(bank, alloc, who, moment, command)),
-        Asked::Listing => policy_listed(bank, alloc, who, moment, message, writer),
+impl<G: Gate> Clerk<G> {
+    /// Does what a message asks for at a moment: the reply to it, which is still to be written, but for a report;
+    /// or the fault that kept it from one.
+    fn handled<S: Store, W: Write>(
+        &self,
+        bank: &mut Bank<S>,
+        message: &Message<'_>,
+        moment: u64,
+        writer: &mut Tallied<W>,
+    ) -> Result<Outcome, Fault>
+        requires { moment ≤ max_moment }
+        ensures done { IsDone (G.users self.now.gate) (S.status bank.old.store) (S.status bank.new.store) (W.contents (stream_of writer.old)) (W.contents (stream_of writer.new)) message.now moment result }
+        ensures writer { KeepsWriter writer.old writer.new result }
+    {
+        let stated = match stated_request(self.alloc, &self.routes, &self.gate, message, moment) {
+            Ok(stated) => stated,
+            Err(fault) => return Err(fault),
+        };
+        match stated {
+            Ok(request) => self.carried_out(bank, request, message, writer),
+            Err(fault) => Ok(Outcome::Response(Response::refused(fault))),
+        }
+    }
+
+    /// Decides a request, and carries it out where it is allowed: the reply to it, which is still to be
+    /// written, but for a report; or the fault that kept it from being made.
+    fn carried_out<S: Store, W: Write>(
+        &self,
+        bank: &mut Bank<S>,
+        request: Request,
+        message: &Message<'_>,
+        writer: &mut Tallied<W>,
+    ) -> Result<Outcome, Fault>
+        requires { IsProper request }
+        ensures carried { IsCarried (S.status bank.old.store) (S.status bank.new.store) (W.contents (stream_of writer.old)) (W.contents (stream_of writer.new)) message.now request result }
+        ensures writer { KeepsWriter writer.old writer.new result }
+    {
+        let Request { who, moment, asked } = request;
+        let alloc = self.alloc;
+        match asked {
+            Asked::Operation(op) => {
+                self.operation_done(bank, Asker { who, moment }, &op, message, writer)
+            }
+            Asked::Opening => outcome_of(session_opened(bank, alloc, who, moment)),
+            Asked::Ending => outcome_of(session_ended(bank, alloc, who, moment)),
+            Asked::Command(command) => outcome_of(command_done(bank, alloc, who, moment, command)),
+            Asked::Listing => policy_listed(bank, alloc, who, moment, message, writer),
+        }
+    }
+
+    /// Decides an operation, and carries it out where it is allowed.
+    fn operation_done<S: Store, W: Write>(
+        &self,
+        bank: &mut Bank<S>,
+        asker: Asker,
+        op: &Op,
+        message: &Message<'_>,
+        writer: &mut Tallied<W>,
+    ) -> Result<Outcome, Fault>
+        requires { IsProper (record { who = asker.who; moment = asker.moment; asked = Asked.Operation op.now }) }
+        ensures carried { IsCarried (S.status bank.old.store) (S.status bank.new.store) (W.contents (stream_of writer.old)) (W.contents (stream_of writer.new)) message.now (record { who = asker.who; moment = asker.moment; asked = Asked.Operation op.now }) result }
+        ensures writer { KeepsWriter writer.old writer.new result }
+    {
+        let Asker { who, moment } = asker;
+        let alloc = self.alloc;
+        match decide(bank, alloc, who, moment, op) {
+            Ok(Decision::Denied(denial)) => Ok(Outcome::Response(Response::denied(
+                alloc,
+                denial.rule(),
+            )?)),
+            Ok(Decision::Repeated(done)) => Ok(Outcome::Response(Response::done(done.into_body()))),
+            Ok(Decision::Allowed(permit)) => match carry_out(permit) {
+                Ok(Reply::Done(done)) => Ok(Outcome::Response(Response::done(done.into_body()))),
+                Ok(Reply::Report(report)) => Ok(Outcome::Report(streamed(report, message, writer))),
+                Err(fault) => Err(fault),
+            },
+            Err(fault) => Err(fault),
+        }
     }
 }
 
@@ -75,35 +193,6 @@ fn outcome_of(response: Result<Response, Fault>) -> Result<Outcome, Fault>
     ensures { result ≡ outcome_of response }
 {
     Ok(Outcome::Response(response?))
-}
-
-/// Decides an operation, and carries it out where it is allowed.
-fn operation_done<S: Store, W: Write>(
-    bank: &mut Bank<S>,
-    alloc: Global,
-    who: Who,
-    moment: u64,
-    op: &Op,
-    message: &Message<'_>,
-    writer: &mut Tallied<W>,
-) -> Result<Outcome, Fault>
-    requires { IsProper (record { who = who; moment = moment; asked = Asked.Operation op.now }) }
-    ensures carried { IsCarried (S.status bank.old.store) (S.status bank.new.store) (W.contents (stream_of writer.old)) (W.contents (stream_of writer.new)) message.now (record { who = who; moment = moment; asked = Asked.Operation op.now }) result }
-    ensures writer { KeepsWriter writer.old writer.new result }
-{
-    match decide(bank, alloc, who, moment, op) {
-        Ok(Decision::Denied(denial)) => Ok(Outcome::Response(Response::denied(
-            alloc,
-            denial.rule(),
-        )?)),
-        Ok(Decision::Repeated(done)) => Ok(Outcome::Response(Response::done(done.into_body()))),
-        Ok(Decision::Allowed(permit)) => match carry_out(permit) {
-            Ok(Reply::Done(done)) => Ok(Outcome::Response(Response::done(done.into_body()))),
-            Ok(Reply::Report(report)) => Ok(Outcome::Report(streamed(report, message, writer))),
-            Err(fault) => Err(fault),
-        },
-        Err(fault) => Err(fault),
-    }
 }
 
 /// Lists the policy to who asks, or returns the rule against that. The moment is not looked at.
@@ -129,10 +218,10 @@ fn policy_listed<S: Store, W: Write>(
 }
 
 /// The response to what a request came to: its reply, or the rule against it.
-fn responded(alloc: Global, told: Result<Result<Vec<u8>, Rule>, Fault>) -> Result<Response, Fault>
-    ensures { IsResponded told result }
+fn responded(alloc: Global, stated: Result<Result<Vec<u8>, Rule>, Fault>) -> Result<Response, Fault>
+    ensures { IsResponded stated result }
 {
-    match told? {
+    match stated? {
         Ok(body) => Ok(Response::done(body)),
         Err(rule) => Ok(Response::denied(alloc, rule)?),
     }
@@ -176,31 +265,6 @@ fn command_done<S: Store>(
     responded(alloc, decide_policy(bank, alloc, who, command))
 }
 
-/// Does what a message asks for at a moment: the reply to it, which is still to be written, but for a report;
-/// or the fault that kept it from one.
-fn handled<S: Store, G: Gate, W: Write>(
-    bank: &mut Bank<S>,
-    alloc: Global,
-    routes: &Routes,
-    gate: &G,
-    message: &Message<'_>,
-    moment: u64,
-    writer: &mut Tallied<W>,
-) -> Result<Outcome, Fault>
-    requires { moment ≤ max_moment }
-    ensures done { IsDone (G.users gate.now) (S.status bank.old.store) (S.status bank.new.store) (W.contents (stream_of writer.old)) (W.contents (stream_of writer.new)) message.now moment result }
-    ensures writer { KeepsWriter writer.old writer.new result }
-{
-    let stated = match stated_request(alloc, routes, gate, message, moment) {
-        Ok(stated) => stated,
-        Err(fault) => return Err(fault),
-    };
-    match stated {
-        Ok(request) => carried_out(bank, alloc, request, message, writer),
-        Err(fault) => Ok(Outcome::Response(Response::refused(fault))),
-    }
-}
-
 /// Writes a response, framed as its message asks for it.
 fn write_response<W: Write>(
     message: &Message<'_>,
@@ -219,7 +283,7 @@ fn write_response<W: Write>(
     )
 }
 
-impl<'b, 'g, 'c, 'r, S: Store, G: Gate, C: Clock> Engine for Counter<'b, 'g, 'c, 'r, S, G, C> {
+impl<S: Store, G: Gate, C: Clock> Engine for Counter<S, G, C> {
     ghost use Rattle.counter_api.specs.Answers.{CounterAnswers, CounterBreaks};
     ghost use Rattle.counter_api.specs.Run.{IsWhole};
     ghost use Rattle.reports.specs.Report.{BeginsWith};
@@ -238,15 +302,7 @@ impl<'b, 'g, 'c, 'r, S: Store, G: Gate, C: Clock> Engine for Counter<'b, 'g, 'c,
         writer: &mut Tallied<W>,
     ) -> Result<(), AnswerFault> {
         let moment = self.clock.moment();
-        let outcome = handled(
-            self.bank,
-            self.alloc,
-            self.routes,
-            self.gate,
-            message,
-            moment,
-            writer,
-        );
+        let outcome = self.clerk.handled(&mut self.bank, message, moment, writer);
         match outcome {
             Ok(Outcome::Response(response)) => Ok(write_response(message, &response, writer)?),
             Ok(Outcome::Report(Sent::Whole)) => Ok(()),

@@ -8,8 +8,10 @@ mod clock;
 mod fixed;
 mod machine;
 mod moment;
+mod shows;
 
 pub use clock::Clock;
 pub use fixed::Fixed;
 pub use machine::MachineClock;
 pub use moment::Moment;
+pub use shows::Shows;

@@ -1,3 +1,3 @@
+mod CallLemmas
 mod ConnectionLemmas
 mod PortLemmas
-mod StreamLemmas

@@ -1,2 +1,4 @@
 pub mod Connections
+pub mod Failed
+pub mod Limited
 pub mod Port

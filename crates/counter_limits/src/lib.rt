@@ -7,4 +7,4 @@ mod ends;
 mod seconds;
 
 pub use ends::{end_after, has_time};
-pub use seconds::{BETWEEN_SWEEPS, MAX_ENDING, MAX_PARTING, MAX_READING, MAX_WAIT, MAX_WRITING};
+pub use seconds::{BETWEEN_SWEEPS, MAX_ENDING, MAX_LINGERING, MAX_READING, MAX_WAIT, MAX_WRITING};

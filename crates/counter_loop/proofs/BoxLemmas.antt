@@ -1,90 +1,89 @@
 -- Connections under their numbers, from turn to turn.
-use Rattle.std.proofs.Common.{◌≡◌, ◌⊎◌, ℕ, Bool, true, false, if◌then◌else◌, inl, inr, List, [], ◌∷◌, ◌++◌, Option, Some, Result, Ok, refl, sym, ap, subst, ◌∙◌, append-nil, append_assoc}
+use Rattle.std.proofs.Common.{◌≡◌, ◌≢◌, ◌⊎◌, ℕ, Bool, true, false, if◌then◌else◌, inl, inr, List, [], ◌∷◌, ◌++◌, Contains, Option, Some, None, Result, refl, sym, ap, subst, ◌∙◌, arith, append-nil, append_assoc}
 use Rattle.std.specs.Prelude.{unwrap_or}
-use Rattle.std.proofs.lemmas.Bool.{eq-eqb, ne_eqb}
+use Rattle.std.proofs.lemmas.Bool.{cases_eq, eq-eqb, ne_eqb}
+use Rattle.std.proofs.lemmas.List.Elements.{Contains-append_right}
 use Rattle.store_rows.specs.Status.{Status}
-use Rattle.http_messages.specs.declared.engine.AnswerFault.{AnswerFault}
-use Rattle.http_messages.specs.declared.step.Step.{Step}
-use Rattle.http_messages.specs.declared.step.Step.TheVariants.{Answered, Waiting}
 use Rattle.counter_loop.specs.Attended.{IsSince}
-use Rattle.counter_loop.specs.Turns.{AreTurns, At, Box, Boxes, GoesOn, IsHad, IsLast, IsOneTurn, IsThere, Made, both, whose, with_box}
-use Rattle.counter_loop.specs.Boxes.{AreServed, AreVisited, Drains, HasTurns, IsBoxed, IsVisited, Reads, StaysSuited, Suits}
-use Rattle.counter_loop.specs.Ways.{IsReadBy, Moves, Ways}
+use Rattle.counter_loop.specs.Turns.{AreTurns, StoreAndClock, Box, Boxes, GoesOn, IsTurnTaken, IsLast, IsOneTurn, IsThere, Turn, as_store_and_clock, whose, with_box}
+use Rattle.counter_loop.specs.Round.{Round}
+use Rattle.counter_loop.specs.Boxes.{AreServed, AreVisited, Drains, HasTurns, IsBoxed, IsDone, IsOver, IsRefused, IsStuck, IsVisited, Reads, Suits}
+use Rattle.counter_door.specs.Ways.{IsAsked, IsReadBy, Moves, Ways}
 use Rattle.counter_loop.specs.declared.client.Client.{Client}
 use Rattle.counter_loop.specs.declared.clients.Clients.{Clients}
-use Rattle.counter_loop.proofs.WayLemmas.{came_by, moves_none, moves_same, moves_then}
+use Rattle.counter_door.proofs.WayLemmas.{came_by, moves_none, moves_same, moves_then}
 
 pub some_same : {A : Type 0} (x y z : A) → Some x ≡ Some y → x ≡ y
 some_same x y z is = ap (λ o. unwrap_or o z) is
 
 -- ---- one connection
 
-since_then : (box : Box) (now later : Option Ways) (rest left : List ℕ) → IsSince box now rest → (out : List ℕ) → rest ≡ out ++ left → (heard : List ℕ) → (box.is_over ≡ false → heard ≡ [])
-    → Moves now later heard out → IsSince box later left
-since_then box now later rest left since out is heard unheard moved = record {
+since_then : (box : Box) (now later : Option Ways) (rest left : List ℕ) → IsSince box now rest → (out : List ℕ) → rest ≡ out ++ left → (read_since : List ℕ) → (box.is_over ≡ false → read_since ≡ [])
+    → Moves now later read_since out → IsSince box later left
+since_then box now later rest left since out is read_since none_received moved = record {
   out = since.out ++ out;
   waits = since.waits ∙ ap (λ l. since.out ++ l) is ∙ sym (append_assoc since.out out left);
-  heard = since.heard ++ heard;
-  unheard = λ open_still. ap (λ l. l ++ heard) (since.unheard open_still) ∙ unheard open_still;
-  moved = moves_then box.ways now later since.heard heard since.out out since.moved moved;
+  read_since = since.read_since ++ read_since;
+  none_received = λ open_still. ap (λ l. l ++ read_since) (since.none_received open_still) ∙ none_received open_still;
+  moved = moves_then box.ways now later since.read_since read_since since.out out since.moved moved;
 }
 
 module _ {T : Type 0} (ways : T → Option Ways) where
   pub drains_none : (c : Client T) → Drains ways c c
-  drains_none c = record { serial = refl; inbox = refl; closing = refl; out = []; outbox = refl; heard = []; unheard = λ open_still. refl; moved = moves_none (ways c.stream) }
+  drains_none c = record { serial = refl; held = refl; closing = refl; out = []; unsent = refl; read_since = []; none_received = λ open_still. refl; moved = moves_none (ways c.stream) }
 
   pub drains_then : (c d e : Client T) → Drains ways c d → Drains ways d e → Drains ways c e
   drains_then c d e here later = record {
     serial = later.serial ∙ here.serial;
-    inbox = later.inbox ∙ here.inbox;
+    held = later.held ∙ here.held;
     closing = later.closing ∙ here.closing;
     out = here.out ++ later.out;
-    outbox = here.outbox ∙ ap (λ l. here.out ++ l) later.outbox ∙ sym (append_assoc here.out later.out e.outbox.items);
-    heard = here.heard ++ later.heard;
-    unheard = λ open_still. ap (λ l. l ++ later.heard) (here.unheard open_still) ∙ later.unheard (here.closing ∙ open_still);
-    moved = moves_then (ways c.stream) (ways d.stream) (ways e.stream) here.heard later.heard here.out later.out here.moved later.moved;
+    unsent = here.unsent ∙ ap (λ l. here.out ++ l) later.unsent ∙ sym (append_assoc here.out later.out e.connection.unsent);
+    read_since = here.read_since ++ later.read_since;
+    none_received = λ open_still. ap (λ l. l ++ later.read_since) (here.none_received open_still) ∙ later.none_received (here.closing ∙ open_still);
+    moved = moves_then (ways c.stream) (ways d.stream) (ways e.stream) here.read_since later.read_since here.out later.out here.moved later.moved;
   }
 
   -- nothing went out, and its stream is as it was
-  pub drains_same : (c d : Client T) → d.serial ≡ c.serial → d.inbox ≡ c.inbox → d.is_closing ≡ c.is_closing → c.outbox.items ≡ d.outbox.items → c.stream ≡ d.stream → Drains ways c d
+  pub drains_same : (c d : Client T) → d.serial ≡ c.serial → d.connection.held ≡ c.connection.held → d.connection.is_closing ≡ c.connection.is_closing → c.connection.unsent ≡ d.connection.unsent → c.stream ≡ d.stream → Drains ways c d
   drains_same c d serial inbox closing outbox stream = record {
     serial = serial;
-    inbox = inbox;
+    held = inbox;
     closing = closing;
     out = [];
-    outbox = outbox;
-    heard = [];
-    unheard = λ open_still. refl;
+    unsent = outbox;
+    read_since = [];
+    none_received = λ open_still. refl;
     moved = subst (λ s. Moves (ways c.stream) (ways s) [] []) stream (moves_none (ways c.stream));
   }
 
   -- what was read of one that is closing is let go
-  pub heard_more : {E : Type 0} (c d e : Client T) (r : Result ℕ E) (buf : List ℕ) → Drains ways c d → d.is_closing ≡ true → e.serial ≡ d.serial → e.inbox ≡ d.inbox → e.is_closing ≡ d.is_closing
-      → d.outbox.items ≡ e.outbox.items → IsReadBy (ways d.stream) (ways e.stream) r buf → Drains ways c e
-  heard_more c d e r buf here closing serial inbox still outbox is =
+  pub received_more : {E : Type 0} (c d e : Client T) (r : Result ℕ E) (buf : List ℕ) → Drains ways c d → d.connection.is_closing ≡ true → e.serial ≡ d.serial → e.connection.held ≡ d.connection.held → e.connection.is_closing ≡ d.connection.is_closing
+      → d.connection.unsent ≡ e.connection.unsent → IsReadBy (ways d.stream) (ways e.stream) r buf → Drains ways c e
+  received_more c d e r buf here closing serial inbox still outbox is =
       let came = came_by (ways d.stream) (ways e.stream) r buf is in
       drains_then c d e here (record {
         serial = serial;
-        inbox = inbox;
+        held = inbox;
         closing = still;
         out = [];
-        outbox = outbox;
-        heard = came.0;
-        unheard = λ open_still. let x : true ≡ false = sym closing ∙ open_still in absurd cc;
+        unsent = outbox;
+        read_since = came.0;
+        none_received = λ open_still. let x : true ≡ false = sym closing ∙ open_still in absurd cc;
         moved = came.1;
       })
 
   -- nothing was read yet
   pub reads_none : (c : Client T) → Reads ways c c
-  reads_none c = record { serial = refl; closing = refl; outbox = refl; came = []; inbox = sym (append-nil c.inbox); moved = moves_none (ways c.stream) }
+  reads_none c = record { serial = refl; closing = refl; unsent = refl; came = []; held = sym (append-nil c.connection.held); moved = moves_none (ways c.stream) }
 
   pub reads_then : (c d e : Client T) → Reads ways c d → Reads ways d e → Reads ways c e
   reads_then c d e here later = record {
     serial = later.serial ∙ here.serial;
     closing = later.closing ∙ here.closing;
-    outbox = later.outbox ∙ here.outbox;
+    unsent = later.unsent ∙ here.unsent;
     came = here.came ++ later.came;
-    inbox = later.inbox ∙ ap (λ l. l ++ later.came) here.inbox ∙ append_assoc c.inbox here.came later.came;
+    held = later.held ∙ ap (λ l. l ++ later.came) here.held ∙ append_assoc c.connection.held here.came later.came;
     moved = moves_then (ways c.stream) (ways d.stream) (ways e.stream) here.came later.came [] [] here.moved later.moved;
   }
 
@@ -94,8 +93,8 @@ module _ {T : Type 0} (begins : Option Ways → Bool) (ways : T → Option Ways)
     box = is.box;
     there = subst (λ n. IsThere begins (boxes n) is.box) (sym drains.serial) is.there;
     over = is.over ∙ sym drains.closing;
-    held = λ open_still. is.held open_still ∙ sym drains.inbox;
-    since = since_then is.box (ways c.stream) (ways d.stream) c.outbox.items d.outbox.items is.since drains.out drains.outbox drains.heard (λ open_still. drains.unheard (sym is.over ∙ open_still)) drains.moved;
+    held = λ open_still. is.held open_still ∙ sym drains.held;
+    since = since_then is.box (ways c.stream) (ways d.stream) c.connection.unsent d.connection.unsent is.since drains.out drains.unsent drains.read_since (λ open_still. drains.none_received (sym is.over ∙ open_still)) drains.moved;
   }
 
   -- what is said of a number of which nothing changed
@@ -109,22 +108,22 @@ other_place : (boxes : Boxes) (who : ℕ) (next : Box) (n : ℕ) → (who ≡ n 
 other_place boxes who next n differs = ap (λ s. if s then Some next else boxes n) (ne_eqb who n differs)
 
 module _ {S C : Type 0} (begins : Option Ways → Bool) (status : S → Status) (users : List ℕ → Option ℕ) (may_give : C → ℕ → C → Type 0) where
-  turns_then : (boxes between after : Boxes) (a b c : At S C) (ts us : List Made) → AreTurns begins status users may_give boxes a ts between b → AreTurns begins status users may_give between b us after c
+  turns_then : (boxes between after : Boxes) (a b c : StoreAndClock S C) (ts us : List Turn) → AreTurns begins status users may_give boxes a ts between b → AreTurns begins status users may_give between b us after c
       → AreTurns begins status users may_give boxes a (ts ++ us) after c
   turns_then boxes between after a b c [] us here later =
       subst (λ x. AreTurns begins status users may_give x a us after c) here.0 (subst (λ s. AreTurns begins status users may_give between s us after c) here.1 later)
   turns_then boxes between after a b c (t ∷ ts) us (before, there, next, mid, turn, rest) later =
       (before, there, next, mid, turn, turns_then (with_box boxes t.who next) between after mid b c ts us rest later)
 
-whose_then : (ts us : List Made) (vs ws : List ℕ) → whose ts ≡ vs → whose us ≡ ws → whose (ts ++ us) ≡ vs ++ ws
+pub whose_then : (ts us : List Turn) (vs ws : List ℕ) → whose ts ≡ vs → whose us ≡ ws → whose (ts ++ us) ≡ vs ++ ws
 whose_then [] us vs ws here later = later ∙ ap (λ l. l ++ ws) here
 whose_then (t ∷ ts) us vs ws here later = ap (λ l. t.who ∷ l) (whose_then ts us (whose ts) ws refl later) ∙ ap (λ l. l ++ ws) here
 
 module _ {T E : Type 0} (begins : Option Ways → Bool) (ways : T → Option Ways) (status : E → Status) (users : E → List ℕ → Option ℕ) (may_give : E → ℕ → E → Type 0) where
   -- later turns name the same users
-  named : (boxes after : Boxes) (old mid new : E) (us : List Made) → users mid ≡ users old → AreTurns begins status (users mid) may_give boxes (both mid) us after (both new)
-      → AreTurns begins status (users old) may_give boxes (both mid) us after (both new)
-  named boxes after old mid new us same turns = subst (λ u. AreTurns begins status u may_give boxes (both mid) us after (both new)) same turns
+  named : (boxes after : Boxes) (old mid new : E) (us : List Turn) → users mid ≡ users old → AreTurns begins status (users mid) may_give boxes (as_store_and_clock mid) us after (as_store_and_clock new)
+      → AreTurns begins status (users old) may_give boxes (as_store_and_clock mid) us after (as_store_and_clock new)
+  named boxes after old mid new us same turns = subst (λ u. AreTurns begins status u may_give boxes (as_store_and_clock mid) us after (as_store_and_clock new)) same turns
 
   -- ---- the turns of one connection
 
@@ -132,7 +131,7 @@ module _ {T E : Type 0} (begins : Option Ways → Bool) (ways : T → Option Way
   turns_none boxes c d s drains is = record {
     turns = [];
     after = boxes;
-    had = (refl, refl);
+    are_turns = (refl, refl);
     by = refl;
     others = λ n other. refl;
     serial = drains.serial;
@@ -150,8 +149,8 @@ module _ {T E : Type 0} (begins : Option Ways → Bool) (ways : T → Option Way
       record {
         turns = here.turns ++ later.turns;
         after = later.after;
-        had = turns_then begins status (users old) may_give boxes here.after later.after (both old) (both mid) (both new) here.turns later.turns here.had
-            (named here.after later.after old mid new later.turns here.same later.had);
+        are_turns = turns_then begins status (users old) may_give boxes here.after later.after (as_store_and_clock old) (as_store_and_clock mid) (as_store_and_clock new) here.turns later.turns here.are_turns
+            (named here.after later.after old mid new later.turns here.same later.are_turns);
         by = whose_then here.turns later.turns vs ws here.by later.by;
         others = λ n other. later.others n (λ same. other (same ∙ here.serial)) ∙ here.others n other;
         serial = later.serial ∙ here.serial;
@@ -175,47 +174,44 @@ module _ {T E : Type 0} (begins : Option Ways → Bool) (ways : T → Option Way
   -- ---- one turn
 
   -- what there is of a connection after it
-  abbrev next_box : Client T → Client T → Made → Bool → Box
-  next_box c d made is_over = record { ways = ways d.stream; held = made.held; waits = c.outbox.items ++ made.sent; is_over = is_over }
-
-  abbrev Goes : E → List ℕ → E → E → Made → Type 0
-  Goes e held old new made = GoesOn status (users e) may_give held (both old) (both new) made
-
-  abbrev Ends : E → List ℕ → E → E → Made → Type 0
-  Ends e held old new made = IsLast status (users e) may_give held (both old) (both new) made
+  abbrev next_box : Client T → Client T → Turn → Bool → Box
+  next_box c d made is_over = record { ways = ways d.stream; held = made.held; waits = c.connection.unsent ++ made.sent; is_over = is_over }
 
   -- this was said of a turn
-  abbrev pub Had : Client T → Client T → E → E → Result Step AnswerFault → List ℕ → Type 0
-  Had c d old new r gave =
-      IsHad status (users old) may_give c.serial gave (ways c.stream) (ways d.stream) c.inbox d.inbox c.outbox.items d.outbox.items (both old) (both new) r
+  abbrev pub Takes : Client T → Client T → E → E → Bool → List ℕ → Type 0
+  Takes c d old new is_over gave =
+      IsTurnTaken status (users old) may_give c.serial gave (ways c.stream) (ways d.stream) c.connection.held d.connection.held c.connection.unsent d.connection.unsent (as_store_and_clock old) (as_store_and_clock new) is_over
+
+  -- it goes on, or was the last
+  abbrev Ends : E → List ℕ → E → E → Turn → Bool → Type 0
+  Ends e held old new made is_over =
+      (GoesOn status (users e) may_give held (as_store_and_clock old) (as_store_and_clock new) made × (is_over ≡ false)) ⊎ (IsLast status (users e) may_give held (as_store_and_clock old) (as_store_and_clock new) made × (is_over ≡ true))
 
   -- the turn of which this was said, as one of many
-  one_turn : (boxes : Boxes) (c d : Client T) (old new : E) (r : Result Step AnswerFault) (is_over : Bool) (is : IsBoxed begins ways boxes c) → c.is_closing ≡ false → (h : Had c d old new r is.since.out)
-      → (Goes old is.box.held old new h.made × (is_over ≡ false)) ⊎ (Ends old is.box.held old new h.made × (is_over ≡ true))
-      → IsOneTurn status (users old) may_give is.box (next_box c d h.made is_over) (both old) (both new) h.made
-  one_turn boxes c d old new r is_over is open_still h ends = record {
+  one_turn : (boxes : Boxes) (c d : Client T) (old new : E) (is_over : Bool) (is : IsBoxed begins ways boxes c) → c.connection.is_closing ≡ false → (h : Takes c d old new is_over is.since.out)
+      → Ends old is.box.held old new h.made is_over → IsOneTurn status (users old) may_give is.box (next_box c d h.made is_over) (as_store_and_clock old) (as_store_and_clock new) h.made
+  one_turn boxes c d old new is_over is open_still h ends = record {
     open_still = is.over ∙ open_still;
-    left = c.outbox.items;
-    waited = is.since.waits ∙ ap (λ l. l ++ c.outbox.items) (sym h.given);
+    left = c.connection.unsent;
+    waited = is.since.waits ∙ ap (λ l. l ++ c.connection.unsent) (sym h.given);
     between = ways c.stream;
-    sent = moves_same is.box.ways (ways c.stream) _ _ _ _ (is.since.unheard (is.over ∙ open_still)) (sym h.given) is.since.moved;
+    sent = moves_same is.box.ways (ways c.stream) _ _ _ _ (is.since.none_received (is.over ∙ open_still)) (sym h.given) is.since.moved;
     read = h.read;
     waits = refl;
     held = refl;
     bounded = h.bounded;
     is = ends;
+    ended = h.ended;
   }
 
-  had_one : (boxes : Boxes) (c d : Client T) (old new : E) (r : Result Step AnswerFault) (is_over : Bool) (is : IsBoxed begins ways boxes c) → c.is_closing ≡ false → (h : Had c d old new r is.since.out)
-      → (Goes old is.box.held old new h.made × (is_over ≡ false)) ⊎ (Ends old is.box.held old new h.made × (is_over ≡ true))
-      → d.serial ≡ c.serial → d.is_closing ≡ is_over → (is_over ≡ false → d.inbox ≡ h.made.held) → users new ≡ users old
-      → HasTurns begins ways status users may_give (c.serial ∷ []) boxes c d old new
-  had_one boxes c d old new r is_over is open_still h ends serial closing kept same =
+  taken_one : (boxes : Boxes) (c d : Client T) (old new : E) (is_over : Bool) (is : IsBoxed begins ways boxes c) → c.connection.is_closing ≡ false → (h : Takes c d old new is_over is.since.out)
+      → Ends old is.box.held old new h.made is_over → d.serial ≡ c.serial → d.connection.is_closing ≡ is_over → users new ≡ users old → HasTurns begins ways status users may_give (c.serial ∷ []) boxes c d old new
+  taken_one boxes c d old new is_over is open_still h ends serial closing same =
       let next = next_box c d h.made is_over in
       record {
         turns = h.made ∷ [];
         after = with_box boxes h.made.who next;
-        had = (is.box, subst (λ n. IsThere begins (boxes n) is.box) (sym h.its) is.there, next, both new, one_turn boxes c d old new r is_over is open_still h ends, (refl, refl));
+        are_turns = (is.box, subst (λ n. IsThere begins (boxes n) is.box) (sym h.its) is.there, next, as_store_and_clock new, one_turn boxes c d old new is_over is open_still h ends, (refl, refl));
         by = ap (λ n. n ∷ []) h.its;
         others = λ n other. other_place boxes h.made.who next n (λ same. other (sym same ∙ h.its));
         serial = serial;
@@ -223,57 +219,115 @@ module _ {T E : Type 0} (begins : Option Ways → Bool) (ways : T → Option Way
           box = next;
           there = subst (λ o. IsThere begins o next) (sym (its_place boxes h.made.who next d.serial (h.its ∙ sym serial))) refl;
           over = sym closing;
-          held = λ goes. sym (kept goes);
-          since = record { out = []; waits = sym h.sent; heard = []; unheard = λ goes. refl; moved = moves_none (ways d.stream) };
+          held = λ goes. sym (h.kept goes);
+          since = record { out = []; waits = sym h.sent; read_since = []; none_received = λ goes. refl; moved = moves_none (ways d.stream) };
         };
         same = same;
       }
 
-  -- ---- by how a turn ended
-
-  pub visited_answered : (c d : Client T) (old new : E) → c.is_closing ≡ false → d.serial ≡ c.serial → d.is_closing ≡ false → users new ≡ users old → ((gave : List ℕ) → Had c d old new (Ok Answered) gave)
+  pub visited_taken : (c d : Client T) (old new : E) (is_over : Bool) → c.connection.is_closing ≡ false → d.serial ≡ c.serial → d.connection.is_closing ≡ is_over → users new ≡ users old → ((gave : List ℕ) → Takes c d old new is_over gave)
       → IsVisited begins ways status users may_give (c.serial ∷ []) c d old new
-  visited_answered c d old new open_still serial closing same had boxes is =
-      let h = had is.since.out in
-      had_one boxes c d old new (Ok Answered) false is open_still h
-      (inl (subst (λ l. Goes old l old new h.made) (sym (is.held (is.over ∙ open_still))) h.goes_on.0, refl)) serial closing (λ goes. h.goes_on.1) same
+  visited_taken c d old new is_over open_still serial closing same are_turns boxes is =
+      let h = are_turns is.since.out in
+      taken_one boxes c d old new is_over is open_still h (subst (λ l. Ends old l old new h.made is_over) (sym (is.held (is.over ∙ open_still))) h.is) serial closing same
 
-  pub visited_used_up : (c d : Client T) (old new : E) → c.is_closing ≡ false → d.serial ≡ c.serial → d.is_closing ≡ false → users new ≡ users old → ((gave : List ℕ) → Had c d old new (Ok Waiting) gave)
-      → IsVisited begins ways status users may_give (c.serial ∷ []) c d old new
-  visited_used_up c d old new open_still serial closing same had boxes is =
-      let h = had is.since.out in
-      had_one boxes c d old new (Ok Waiting) false is open_still h
-      (inl (subst (λ l. Goes old l old new h.made) (sym (is.held (is.over ∙ open_still))) h.goes_on.0, refl)) serial closing (λ goes. h.goes_on.1) same
+-- ---- what is said of one that is done
 
-  pub visited_last : (c d : Client T) (old new : E) (r : Result Step AnswerFault) → c.is_closing ≡ false → d.serial ≡ c.serial → d.is_closing ≡ true → users new ≡ users old → ((gave : List ℕ) → Had c d old new r gave)
-      → IsVisited begins ways status users may_give (c.serial ∷ []) c d old new
-  visited_last c d old new r open_still serial closing same had boxes is =
-      let h = had is.since.out in
-      had_one boxes c d old new r true is open_still h
-      (inr (subst (λ l. Ends old l old new h.made) (sym (is.held (is.over ∙ open_still))) h.is, refl)) serial closing (λ goes. let e : true ≡ false = goes in absurd cc) same
+pub no_rest : {A : Type 0} (out rest : List A) → out ++ rest ≡ [] → rest ≡ []
+no_rest [] rest none = none
+no_rest (x ∷ out) rest none = let e : x ∷ (out ++ rest) ≡ [] = none in absurd cc
 
-  -- ---- all of them
+-- one had a turn among these, or what there is of it stays as it was
+module _ {S C : Type 0} (begins : Option Ways → Bool) (status : S → Status) (users : List ℕ → Option ℕ) (may_give : C → ℕ → C → Type 0) where
+  pub turn_or_same : (boxes after : Boxes) (old new : StoreAndClock S C) (ts : List Turn) (k : ℕ) → AreTurns begins status users may_give boxes old ts after new → Contains (whose ts) k ⊎ (after k ≡ boxes k)
+  turn_or_same boxes after old new [] k are_turns = inr (ap (λ (b : Boxes). b k) are_turns.0)
+  turn_or_same boxes after old new (t ∷ ts) k (before, there, next, mid, turn, rest) = elim (cases_eq t.who k) [
+    | inl same ↦ inl (subst (Contains (t.who ∷ whose ts)) same (0, omega arith, refl))
+    | inr differs ↦ elim (turn_or_same (with_box boxes t.who next) after mid new ts k rest) [
+      | inl later ↦ inl (Contains-append_right (t.who ∷ []) (whose ts) k later)
+      | inr still ↦ inr (still ∙ ap (λ s. if s then Some next else boxes k) (ne_eqb t.who k differs))
+    ]
+  ]
 
-  pub served_none : (clients : Clients T) (boxes : Boxes) (s : E) → Suits begins ways clients boxes → AreServed begins ways status users may_give [] boxes clients s s
-  served_none clients boxes s suits = record { turns = []; after = boxes; had = (refl, refl); by = refl; suits = suits; same = refl }
+module _ {T : Type 0} (begins : Option Ways → Bool) (ways : T → Option Ways) (full failed : T → Type 0) where
+  over_at : (boxes : Boxes) (n : ℕ) (o : Option Box) (b : Box) → boxes n ≡ o → IsThere begins o b → b.is_over ≡ true → IsOver boxes n
+  over_at boxes n None b is there over = let e : true ≡ false = sym over ∙ there.3 in absurd cc
+  over_at boxes n (Some x) b is there over = (x, is, ap (λ (y : Box). y.is_over) (sym there) ∙ over)
 
-  pub served_more : (c d : Clients T) (boxes : Boxes) (old mid new : E) (vs ws : List ℕ) → AreServed begins ways status users may_give vs boxes c old mid
-      → AreVisited begins ways status users may_give ws c d mid new → AreServed begins ways status users may_give (vs ++ ws) boxes d old new
-  served_more c d boxes old mid new vs ws here more =
-      let later = more here.after here.suits in
+  stuck_at : (boxes : Boxes) (n : ℕ) (o : Option Box) (b : Box) (stream : T) (rest : List ℕ) → boxes n ≡ o → IsThere begins o b → IsSince b (ways stream) rest → rest ≢ [] → full stream ⊎ failed stream
+      → IsStuck ways full failed boxes n
+  stuck_at boxes n None b stream rest is there since some refused = absurd (some (no_rest since.out rest (sym since.waits ∙ there.2)))
+  stuck_at boxes n (Some x) b stream rest is there since some refused =
+      record { box = b; there = is ∙ ap Some (sym there); stream = stream; rest = rest; since = since; some = some; refused = refused }
+
+  pub over_of : (boxes : Boxes) (c : Client T) (n : ℕ) → c.serial ≡ n → IsBoxed begins ways boxes c → c.connection.is_closing ≡ true → IsOver boxes n
+  over_of boxes c n serial b closing = over_at boxes n (boxes n) b.box refl (subst (λ m. IsThere begins (boxes m) b.box) serial b.there) (b.over ∙ closing)
+
+  pub stuck_of : (boxes : Boxes) (c : Client T) (n : ℕ) → c.serial ≡ n → IsBoxed begins ways boxes c → c.connection.unsent ≢ [] → full c.stream ⊎ failed c.stream → IsStuck ways full failed boxes n
+  stuck_of boxes c n serial b some refused =
+      stuck_at boxes n (boxes n) b.box c.stream c.connection.unsent refl (subst (λ m. IsThere begins (boxes m) b.box) serial b.there) b.since some refused
+
+  refused_at : (boxes : Boxes) (n : ℕ) (o : Option Box) (b : Box) (stream : T) (rest : List ℕ) (before : Option Ways) → boxes n ≡ o → IsThere begins o b → IsSince b (ways stream) rest → rest ≢ []
+      → full stream ⊎ failed stream → IsAsked before (ways stream) → IsRefused ways full failed before boxes n
+  refused_at boxes n None b stream rest before is there since some refused asked = absurd (some (no_rest since.out rest (sym since.waits ∙ there.2)))
+  refused_at boxes n (Some x) b stream rest before is there since some refused asked = record {
+    stuck = record { box = b; there = is ∙ ap Some (sym there); stream = stream; rest = rest; since = since; some = some; refused = refused };
+    asked = asked;
+  }
+
+  pub refused_of : (boxes : Boxes) (c : Client T) (n : ℕ) (before : Option Ways) → c.serial ≡ n → IsBoxed begins ways boxes c → c.connection.unsent ≢ [] → full c.stream ⊎ failed c.stream → IsAsked before (ways c.stream)
+      → IsRefused ways full failed before boxes n
+  refused_of boxes c n before serial b some refused asked =
+      refused_at boxes n (boxes n) b.box c.stream c.connection.unsent before refl (subst (λ m. IsThere begins (boxes m) b.box) serial b.there) b.since some refused asked
+
+  -- one that is over with no turn
+  pub gone_of : (boxes : Boxes) (c : Client T) (n : ℕ) (before : Option Ways) → c.serial ≡ n → IsBoxed begins ways boxes c → IsDone failed c → (c.connection.is_closing ≡ true) ⊎ IsAsked before (ways c.stream)
+      → IsOver boxes n ⊎ IsRefused ways full failed before boxes n
+  gone_of boxes c n before serial b done (inl closing) = inl (over_of boxes c n serial b closing)
+  gone_of boxes c n before serial b (inl closing) (inr asked) = inl (over_of boxes c n serial b closing)
+  gone_of boxes c n before serial b (inr (some, broken)) (inr asked) = inr (refused_of boxes c n before serial b some (inr broken) asked)
+
+  -- of which nothing changed since
+  pub still_over : (boxes after : Boxes) (n : ℕ) → after n ≡ boxes n → IsOver boxes n → IsOver after n
+  still_over boxes after n same (box, is, over) = (box, same ∙ is, over)
+
+  pub still_refused : (boxes after : Boxes) (n : ℕ) (before : Option Ways) → after n ≡ boxes n → IsRefused ways full failed before boxes n → IsRefused ways full failed before after n
+  still_refused boxes after n before same is = record {
+    stuck = record {
+      box = is.stuck.box;
+      there = same ∙ is.stuck.there;
+      stream = is.stuck.stream;
+      rest = is.stuck.rest;
+      since = is.stuck.since;
+      some = is.stuck.some;
+      refused = is.stuck.refused;
+    };
+    asked = is.asked;
+  }
+
+-- ---- all of them
+
+module _ {T E : Type 0} (begins : Option Ways → Bool) (ways : T → Option Ways) (full failed : T → Type 0) (status : E → Status) (users : E → List ℕ → Option ℕ) (may_give : E → ℕ → E → Type 0) where
+  pub served_none : (rounds : List Round) (clients : Clients T) (boxes : Boxes) (s : E) → Suits begins ways full failed rounds clients boxes → AreServed begins ways full failed status users may_give [] rounds boxes clients s s
+  served_none rounds clients boxes s suits = record { turns = []; after = boxes; are_turns = (refl, refl); by = refl; suits = suits; same = refl }
+
+  pub served_more : (rounds : List Round) (c d : Clients T) (boxes : Boxes) (old mid new : E) (vs ws : List ℕ) → AreServed begins ways full failed status users may_give vs rounds boxes c old mid
+      → AreVisited begins ways full failed status users may_give ws c d mid new → AreServed begins ways full failed status users may_give (vs ++ ws) rounds boxes d old new
+  served_more rounds c d boxes old mid new vs ws here more =
+      let later = more rounds here.after here.suits in
       record {
         turns = here.turns ++ later.turns;
         after = later.after;
-        had = turns_then begins status (users old) may_give boxes here.after later.after (both old) (both mid) (both new) here.turns later.turns here.had
-            (named here.after later.after old mid new later.turns here.same later.had);
+        are_turns = turns_then begins status (users old) may_give boxes here.after later.after (as_store_and_clock old) (as_store_and_clock mid) (as_store_and_clock new) here.turns later.turns here.are_turns
+            (named begins ways status users may_give here.after later.after old mid new later.turns here.same later.are_turns);
         by = whose_then here.turns later.turns vs ws here.by later.by;
         suits = later.suits;
         same = later.same ∙ here.same;
       }
 
-  pub stays_visited : (c d : Clients T) (s : E) → StaysSuited begins ways c d → AreVisited begins ways status users may_give [] c d s s
-  stays_visited c d s stays boxes suits = served_none d boxes s (stays boxes suits)
+  pub visited_none : (clients : Clients T) (s : E) → AreVisited begins ways full failed status users may_give [] clients clients s s
+  visited_none clients s rounds boxes suits = served_none rounds clients boxes s suits
 
-  pub all_then : (c d e : Clients T) (old mid new : E) (vs ws : List ℕ) → AreVisited begins ways status users may_give vs c d old mid → AreVisited begins ways status users may_give ws d e mid new
-      → AreVisited begins ways status users may_give (vs ++ ws) c e old new
-  all_then c d e old mid new vs ws here later boxes suits = served_more d e boxes old mid new vs ws (here boxes suits) later
+  pub all_then : (c d e : Clients T) (old mid new : E) (vs ws : List ℕ) → AreVisited begins ways full failed status users may_give vs c d old mid → AreVisited begins ways full failed status users may_give ws d e mid new
+      → AreVisited begins ways full failed status users may_give (vs ++ ws) c e old new
+  all_then c d e old mid new vs ws here later rounds boxes suits = served_more rounds d e boxes old mid new vs ws (here rounds boxes suits) later

@@ -1,26 +1,32 @@
--- From round to round, so that nobody is forgotten.
-use Rattle.std.proofs.Common.{◌≡◌, ◌≢◌, ◌⊎◌, ℕ, Bool, true, false, if◌then◌else◌, List, [], ◌∷◌, ◌++◌, inl, inr, Option, Some, None, refl, sym, ap, subst, ◌∙◌, zero, suc, Contains}
-use Rattle.std.specs.Prelude.{slice_index_or}
-use Rattle.std.proofs.lemmas.Bool.{cases_eq, eq-eqb, ne_eqb}
-use Rattle.std.proofs.lemmas.List.Elements.{Contains-append_cases}
+-- From round to round, so that nobody is left out.
+use Rattle.std.proofs.Common.{◌≡◌, ◌≢◌, ◌⊎◌, ◌+◌, ◌<◌, ◌≤◌, ℕ, Bool, true, false, List, [], ◌∷◌, ◌++◌, length, inl, inr, Option, Some, None, refl, sym, ap, subst, ◌∙◌, Contains, append-nil, append_assoc, arith, map}
+use Rattle.std.proofs.lemmas.Bool.{cases_lt}
+use Rattle.std.specs.Prelude.{⊤}
+use Rattle.std.specs.declared.time.Instant.{Instant}
 use Rattle.slab.specs.Slab.{get}
+use Rattle.reports.specs.Report.{BeginsWith}
 use Rattle.store_rows.specs.Status.{Status}
-use Rattle.counter_loop.specs.Boxes.{AreServed, IsBoxed, IsHeld, Suits}
-use Rattle.counter_loop.specs.Rounds.{AreAttendedInRounds, AreRounds, Fits, HoldsWhole, IsFull, IsDue, IsMinded, IsOver, IsRound, NoneForgotten, RoundsOn, StaysFit, joined}
-use Rattle.counter_loop.specs.Served.{IsLeft, IsThereAfter}
-use Rattle.counter_loop.specs.Turns.{AreTurns, At, Box, Boxes, IsThere, Made, both, nothing_yet, whose, with_box}
-use Rattle.counter_loop.specs.Ways.{Ways}
+use Rattle.counter_loop.specs.Attended.{AreOfDoor, EndAs}
+use Rattle.counter_loop.specs.Boxes.{AreAllParted, AreServed, HoldsWhole, IsBoxed, IsCause, IsHeld, IsLetGo, IsOver, IsRefused, IsStuck, Suits, WasLetGo}
+use Rattle.counter_loop.specs.Ends.{AreTimed, IsTimed, batch_since}
+use Rattle.counter_door.specs.Readiness.{IsReadAt, Reports, with_reports}
+use Rattle.counter_loop.specs.Round.{AreRead, HoldsFrom, LastsSince, Round, Standing, joined, reports_of}
+use Rattle.counter_loop.specs.Rounds.{AreAttendedInRounds, AreRounds, AreServedAtDoor, AreServedInRounds, Fits, GoOn, IsDue, IsFair, IsMinded, IsRound, IsWaitedFor, RoundsOn, StaysFitAt}
+use Rattle.counter_loop.specs.Served.{IsLeft, IsThereAfter, most_turns, turns_of}
+use Rattle.counter_loop.specs.Turns.{AreTurns, StoreAndClock, Box, Boxes, IsThere, Turn, as_store_and_clock, nothing_yet, with_box}
+use Rattle.counter_door.specs.Ways.{Ways}
 use Rattle.counter_loop.specs.declared.client.Client.{Client}
 use Rattle.counter_loop.specs.declared.client.WaitsFor.TheVariants as For
 use Rattle.counter_loop.specs.declared.clients.Clients.{Clients}
-use Rattle.counter_loop.proofs.AttendedLemmas.{attended}
-use Rattle.counter_loop.proofs.BoxLemmas.{some_same}
-use Rattle.counter_loop.proofs.RoundLemmas.{contains_none, held_before}
-use Rattle.counter_loop.proofs.SuitLemmas.{all_ended}
-
-true_or_false : (b : Bool) → (b ≡ true) ⊎ (b ≡ false)
-true_or_false true = inl refl
-true_or_false false = inr refl
+use Rattle.counter_door.specs.declared.readiness.Ready.{Ready}
+use Rattle.counter_door.specs.declared.parted.Parted.{Parted}
+use Rattle.counter_loop.proofs.AttendedLemmas.{attended, attended_none, none_attended}
+use Rattle.counter_loop.proofs.BoxLemmas.{boxed_drains, gone_of, over_of, refused_of, some_same, still_over, still_refused, stuck_of, turn_or_same}
+use Rattle.counter_loop.proofs.EndLemmas.{begins_then, holds_of, lasts_begun, lasts_more, suits_more}
+use Rattle.counter_loop.proofs.HandedLemmas.{each_end, no_turn}
+use Rattle.counter_loop.proofs.ReportLemmas.{Shows, read_more, reports_none, with_then}
+use Rattle.counter_loop.proofs.RoundLemmas.{round_fewer}
+use Rattle.counter_loop.proofs.SuitLemmas.{all_ended, true_or_false}
 
 no_box : {A : Type 0} (o : Option A) (x : A) → o ≡ None → o ≡ Some x → ⊥
 no_box o x none some = let e : None ≡ Some x = sym none ∙ some in absurd cc
@@ -28,291 +34,387 @@ no_box o x none some = let e : None ≡ Some x = sym none ∙ some in absurd cc
 -- ---- turns
 
 module _ {S C : Type 0} (begins : Option Ways → Bool) (status : S → Status) (users : List ℕ → Option ℕ) (may_give : C → ℕ → C → Type 0) where
-  joined_turns : (boxes between after : Boxes) (a b c : At S C) (ts us : List Made) → AreTurns begins status users may_give boxes a ts between b → AreTurns begins status users may_give between b us after c
+  joined_turns : (boxes between after : Boxes) (a b c : StoreAndClock S C) (ts us : List Turn) → AreTurns begins status users may_give boxes a ts between b → AreTurns begins status users may_give between b us after c
       → AreTurns begins status users may_give boxes a (ts ++ us) after c
   joined_turns boxes between after a b c [] us here later =
       subst (λ x. AreTurns begins status users may_give x a us after c) here.0 (subst (λ s. AreTurns begins status users may_give between s us after c) here.1 later)
   joined_turns boxes between after a b c (t ∷ ts) us (before, there, next, mid, turn, rest) later =
       (before, there, next, mid, turn, joined_turns (with_box boxes t.who next) between after mid b c ts us rest later)
 
-  -- what there is of one stays
-  grown : (boxes after : Boxes) (old new : At S C) (ts : List Made) (k : ℕ) (box : Box) → AreTurns begins status users may_give boxes old ts after new → boxes k ≡ Some box → (later : Box) × (after k ≡ Some later)
-  grown boxes after old new [] k box (is, same) had = (box, ap (λ b. b k) is ∙ had)
-  grown boxes after old new (t ∷ ts) k box (before, there, next, mid, turn, rest) had = elim (cases_eq t.who k) [
-    | inl same ↦ grown (with_box boxes t.who next) after mid new ts k next rest (ap (λ s. if s then Some next else boxes k) (eq-eqb t.who k same))
-    | inr differs ↦ grown (with_box boxes t.who next) after mid new ts k box rest (ap (λ s. if s then Some next else boxes k) (ne_eqb t.who k differs) ∙ had)
-  ]
+-- ---- who stands under a key
 
-whose_both : (ts us : List Made) → whose (ts ++ us) ≡ whose ts ++ whose us
-whose_both [] us = refl
-whose_both (t ∷ ts) us = ap (λ l. t.who ∷ l) (whose_both ts us)
+module _ {T : Type 0} (ways : T → Option Ways) where
+  abbrev pub standing : Client T → Standing
+  standing c = record { who = c.serial; ways = ways c.stream }
 
--- ---- whether one has this number
+  abbrev pub standing_of : Option (Client T) → Option Standing
+  standing_of None = None
+  standing_of (Some c) = Some (standing c)
 
-module _ {T : Type 0} where
-  abbrev pub Found : List (Option (Client T)) → ℕ → Type 0
-  Found l n = (key : ℕ) × (c : Client T) × (slice_index_or l key None ≡ Some c) × (c.serial ≡ n)
+  stands : (o : Option (Client T)) (s : Standing) → standing_of o ≡ Some s → (c : Client T) × (o ≡ Some c) × (standing c ≡ s)
+  stands None s is = let e : None ≡ Some s = is in absurd cc
+  stands (Some c) s is = (c, refl, some_same (standing c) s s is)
 
-is_it : {T : Type 0} (o : Option (Client T)) (n : ℕ) → ((c : Client T) × (o ≡ Some c) × (c.serial ≡ n)) ⊎ ((c : Client T) → o ≡ Some c → c.serial ≡ n → ⊥)
-is_it None n = inr (λ c got serial. let e : None ≡ Some c = got in absurd cc)
-is_it (Some d) n = elim (cases_eq d.serial n) [
-  | inl is ↦ inl (d, refl, is)
-  | inr differs ↦ inr (λ c got serial. differs (ap (λ x. x.serial) (some_same d c d got) ∙ serial))
-]
+module _ {T E : Type 0} (begins : Option Ways → Bool) (ways : T → Option Ways) (used_up full failed : T → Type 0) (status : E → Status) (users : E → List ℕ → Option ℕ) (may_give : E → ℕ → E → Type 0) where
+  -- as a round says of one that was visited, and of one of which a whole message is held
+  abbrev pub SaysSince : Option Ways → Boxes → List ℕ → ℕ → Type 0
+  SaysSince before after by n = Contains by n ⊎ (IsOver after n ⊎ IsRefused ways full failed before after n)
 
-nowhere : {T : Type 0} (o : Option (Client T)) (l : List (Option (Client T))) (n : ℕ) → ((c : Client T) → o ≡ Some c → c.serial ≡ n → ⊥) → (Found l n → ⊥) → (key : ℕ) (c : Client T)
-    → slice_index_or (o ∷ l) key None ≡ Some c → c.serial ≡ n → ⊥
-nowhere o l n not none zero c got serial = not c got serial
-nowhere o l n not none (suc key) c got serial = none (key, c, got, serial)
+  abbrev pub Says : Boxes → List ℕ → ℕ → Type 0
+  Says after by n = Contains by n ⊎ (IsOver after n ⊎ IsStuck ways full failed after n)
 
-pub found : {T : Type 0} (l : List (Option (Client T))) (n : ℕ) → Found l n ⊎ (Found l n → ⊥)
-found [] n = inr (λ f. let e : None ≡ Some f.1 = f.2 in absurd cc)
-found (o ∷ l) n = elim (is_it o n) [
-  | inl here ↦ inl (0, here.0, here.1, here.2)
-  | inr other ↦ elim (found l n) [
-    | inl f ↦ inl (suc f.0, f.1, f.2, f.3)
-    | inr none ↦ inr (λ f. nowhere o l n other none f.0 f.1 f.2 f.3)
-  ]
-]
+  says_so : (before : Option Ways) (after : Boxes) (by : List ℕ) (n : ℕ) → SaysSince before after by n → Says after by n
+  says_so before after by n (inl are_turns) = inl are_turns
+  says_so before after by n (inr (inl over)) = inr (inl over)
+  says_so before after by n (inr (inr refused)) = inr (inr refused.stuck)
 
-abbrev pub is_yes : {P : Type 0} → P ⊎ (P → ⊥) → Bool
-is_yes (inl p) = true
-is_yes (inr other) = false
-
-yes_of : {P : Type 0} (s : P ⊎ (P → ⊥)) → P → is_yes s ≡ true
-yes_of (inl q) p = refl
-yes_of (inr other) p = absurd (other p)
-
-of_yes : {P : Type 0} (s : P ⊎ (P → ⊥)) → is_yes s ≡ true → P
-of_yes (inl p) is = p
-of_yes (inr other) is = let e : false ≡ true = is in absurd cc
-
-module _ {T E : Type 0} (begins : Option Ways → Bool) (ways : T → Option Ways) (used_up full : T → Type 0) (status : E → Status) (users : E → List ℕ → Option ℕ) (may_give : E → ℕ → E → Type 0) where
-  -- ---- one connection
-
-  abbrev pub AllMinded : Clients T → Type 0
-  AllMinded clients = (key : ℕ) (c : Client T) → get clients.slab key ≡ Some c → IsMinded begins ways full c
-
-  its_box : (boxes : Boxes) (c : Client T) (n : ℕ) (box : Box) → c.serial ≡ n → boxes n ≡ Some box → (b : IsBoxed begins ways boxes c) → b.box ≡ box
-  its_box boxes c n box serial is b = subst (λ o. IsThere begins o b.box) (ap boxes serial ∙ is) b.there
-
-  is_full : (boxes : Boxes) (c : Client T) (n : ℕ) (box : Box) → c.serial ≡ n → boxes n ≡ Some box → IsBoxed begins ways boxes c → c.outbox.items ≢ [] → full c.stream → IsFull ways full boxes n
-  is_full boxes c n box serial is b some takes_none =
-      record { box = b.box; there = is ∙ ap Some (sym (its_box boxes c n box serial is b)); stream = c.stream; rest = c.outbox.items; since = b.since; some = some; is_full = takes_none }
-
-  is_over : (boxes : Boxes) (c : Client T) (n : ℕ) (box : Box) → c.serial ≡ n → boxes n ≡ Some box → IsBoxed begins ways boxes c → c.is_closing ≡ true → IsOver boxes n
-  is_over boxes c n box serial is b closing = (b.box, is ∙ ap Some (sym (its_box boxes c n box serial is b)), b.over ∙ closing)
-
-  -- as a round says of one
-  abbrev pub Says : Boxes → List ℕ → Clients T → ℕ → Type 0
-  Says after by to n = Contains by n ⊎ (IsOver after n ⊎ (IsFull ways full after n ⊎ (IsHeld begins ways to n → ⊥)))
-
-  left_so : (after : Boxes) (by : List ℕ) (to : Clients T) (d : Client T) (n : ℕ) (box : Box) → d.serial ≡ n → after n ≡ Some box → IsBoxed begins ways after d → d.waits_for ≢ For.Nothing
-      → IsLeft used_up full (Contains by n) d → Says after by to n
-  left_so after by to d n box serial is b waits left = elim (true_or_false d.is_closing) [
-    | inl closing ↦ inr (inl (is_over after d n box serial is b closing))
+  left_so : (before : Option Ways) (after : Boxes) (by : List ℕ) (d : Client T) (n : ℕ) → d.serial ≡ n → IsBoxed begins ways after d → d.waits_for ≢ For.Nothing
+      → IsLeft ways used_up full failed (Contains by n) before d → SaysSince before after by n
+  left_so before after by d n serial b waits left = elim (true_or_false d.connection.is_closing) [
+    | inl closing ↦ inr (inl (over_of begins ways full failed after d n serial b closing))
     | inr goes ↦
         let out = left waits goes in
         elim out.turned [
-          | inl had ↦ inl had
-          | inr some ↦ inr (inr (inl (is_full after d n box serial is b some (out.written some))))
+          | inl are_turns ↦ inl are_turns
+          | inr some ↦ inr (inr (refused_of begins ways full failed after d n before serial b some.0 (inl (out.written some.0)) some.1))
         ]
   ]
 
   -- ---- one round
 
-  pub record IsOneRound (from : Clients T) (boxes : Boxes) (old : E) (ts : List Made) (to : Clients T) (after : Boxes) (new : E) : Type 0 where
-    pub had : AreTurns begins status (users old) may_give boxes (both old) ts after (both new)
+  pub record IsOneRound (rounds : List Round) (boxes : Boxes) (old : E) (r : Round) (new : E) : Type 0 where
+    pub are_turns : AreTurns begins status (users old) may_give boxes (as_store_and_clock old) r.turns r.after (as_store_and_clock new)
     pub same : users new ≡ users old
-    pub served : (n : ℕ) (box : Box) → boxes n ≡ Some box → box.is_over ≡ false → HoldsWhole box.held → Says after (whose ts) to n
-    pub only : (n : ℕ) → Contains (whose ts) n → IsHeld begins ways from n
-    pub kept : (n : ℕ) → IsHeld begins ways to n → IsHeld begins ways from n ⊎ (after n ≡ None)
+    pub fair : IsFair (IsRefused ways full failed) (IsStuck ways full failed) (WasLetGo ways full failed rounds) boxes r
 
-  module _ (is_due : ℕ → Client T → Type 0) (from visited to : Clients T) (boxes : Boxes) (old new : E) (round : IsRound begins ways used_up full status users may_give is_due from visited old new)
-      (stays : StaysFit begins ways full visited to) (suits : Suits begins ways from boxes) (minded : AllMinded from) where
-    abbrev pub served_by : AreServed begins ways status users may_give round.by boxes visited old new
-    served_by = round.visited boxes suits
+  module _ (now : Instant) (ready : List Ready) (from visited : Clients T) (rounds : List Round) (boxes : Boxes) (old new : E) (round : IsRound begins ways used_up full failed now status users may_give (IsDue ready) from visited old new)
+      (fits : Fits begins ways full failed rounds from boxes) where
+    abbrev pub served_by : AreServed begins ways full failed status users may_give round.by rounds boxes visited old new
+    served_by = round.visited rounds boxes fits.suits
 
-    minded_visited : (key : ℕ) (d : Client T) (o : Option (Client T)) → get visited.slab key ≡ Some d → get from.slab key ≡ o → IsMinded begins ways full d
+    abbrev pub There : Client T → Option (Client T) → Type 0
+    There c o = IsThereAfter ways used_up full failed now (Contains round.by c.serial) c o
+
+    -- one that is there after it was visited, or stays as it was
+    visited_or_same : (key : ℕ) (c d : Client T) → get from.slab key ≡ Some c → get visited.slab key ≡ Some d → (c ≡ d) ⊎ There c (Some d)
+    visited_or_same key c d was got = elim (round.either key c was) [
+      | inl same ↦ inl (some_same c d c (sym same ∙ got))
+      | inr is ↦ inr (subst (λ o. There c o) got is)
+    ]
+
+    minded_visited : (key : ℕ) (d : Client T) (o : Option (Client T)) → get visited.slab key ≡ Some d → get from.slab key ≡ o → IsMinded begins ways full failed d
     minded_visited key d None got was = absurd (no_box (get visited.slab key) d (round.none key was) got)
-    minded_visited key d (Some c) got was = elim (round.either key c was) [
-      | inl same ↦ subst (λ (x : Client T). IsMinded begins ways full x) (some_same c d c (sym same ∙ got)) (minded key c was)
-      | inr is ↦
-          let there : IsThereAfter used_up full (Contains round.by c.serial) c (Some d) = subst (λ o. IsThereAfter used_up full (Contains round.by c.serial) c o) got is in
-          λ closing. let out = there.2 there.1 closing in (λ whole. out.owed whole.1, out.written)
+    minded_visited key d (Some c) got was = elim (visited_or_same key c d was got) [
+      | inl same ↦ subst (λ (x : Client T). IsMinded begins ways full failed x) same (fits.minded key c was)
+      | inr there ↦ (λ closing. let out = there.2 there.1 closing in (λ whole. out.owed whole.1, out.written))
     ]
 
-    abbrev pub is_known : ℕ → Bool
-    is_known n = is_yes (found visited.slab.slots n)
+    abbrev pub its_round : Round
+    its_round = record { ready = ready; now = now; there = λ key. standing_of ways (get from.slab key); turns = served_by.turns; after = served_by.after }
 
-    pub fit : Fits begins ways full to served_by.after is_known
-    fit = stays served_by.after is_known (record {
-      suits = served_by.suits;
+    -- ---- what is waited for
+
+    stuck_still : (d : Client T) (since : Instant) → IsBoxed begins ways served_by.after d → (d.connection.unsent ≢ [] → full d.stream) → AreTimed d → batch_since d.times ≡ Some since → IsStuck ways full failed served_by.after d.serial
+    stuck_still d since b written (inl none) is = let e : None ≡ Some since = sym none.1 ∙ is in absurd cc
+    stuck_still d since b written (inr some) is = stuck_of begins ways full failed served_by.after d d.serial refl b some.0 (inl (written some.0))
+
+    -- one that was not visited
+    waited_still : (c : Client T) → IsBoxed begins ways served_by.after c → c.connection.is_closing ≡ false → IsMinded begins ways full failed c → IsWaitedFor begins ways full failed rounds c
+        → IsWaitedFor begins ways full failed (rounds ++ its_round ∷ []) c
+    waited_still c b open_still minds waited = record {
+      waits = waited.waits;
+      part = λ since is.
+          let its = waited.part since is in
+          (its.0, its.1, its.2, lasts_more rounds its_round since (HoldsFrom its.0 c.serial) its.3 (holds_of begins ways full failed served_by.after c its.0 b open_still its.2 its.1));
+      batch = λ since is. lasts_more rounds its_round since (λ boxes. IsStuck ways full failed boxes c.serial) (waited.batch since is) (stuck_still c since b (minds open_still).1 waited.waits is);
+    }
+
+    -- one that was visited
+    waited_visited : (c d : Client T) → d.serial ≡ c.serial → IsBoxed begins ways served_by.after d → d.connection.is_closing ≡ false → (d.connection.unsent ≢ [] → full d.stream) → IsTimed now c d → IsWaitedFor begins ways full failed rounds c
+        → IsWaitedFor begins ways full failed (rounds ++ its_round ∷ []) d
+    waited_visited c d serial b open_still written timed waited = record {
+      waits = timed.waits;
+      part = λ since is. elim (timed.keeps.part since is) [
+        | inl kept ↦
+            let its = waited.part since kept.0 in
+            let begun : BeginsWith d.connection.held its.0 = begins_then its.0 c.connection.held d.connection.held its.2 kept.1 in (
+              its.0,
+              its.1,
+              begun,
+              lasts_more rounds its_round since (HoldsFrom its.0 d.serial) (subst (λ n. LastsSince rounds since (HoldsFrom its.0 n)) (sym serial) its.3)
+                  (holds_of begins ways full failed served_by.after d its.0 b open_still begun its.1),
+            )
+        | inr begun ↦
+            let whole : BeginsWith d.connection.held d.connection.held = ([], sym (append-nil d.connection.held)) in
+            (d.connection.held, begun.1, whole, lasts_begun rounds its_round since (HoldsFrom d.connection.held d.serial) begun.0 (holds_of begins ways full failed served_by.after d d.connection.held b open_still whole begun.1))
+      ];
+      batch = λ since is.
+          let here = stuck_still d since b written timed.waits is in
+          elim (timed.keeps.batch since is) [
+            | inl kept ↦
+                lasts_more rounds its_round since (λ boxes. IsStuck ways full failed boxes d.serial)
+                (subst (λ n. LastsSince rounds since (λ boxes. IsStuck ways full failed boxes n)) (sym serial) (waited.batch since kept)) here
+            | inr begun ↦ lasts_begun rounds its_round since (λ boxes. IsStuck ways full failed boxes d.serial) begun here
+          ];
+    }
+
+    timed_visited : (key : ℕ) (d : Client T) (o : Option (Client T)) → get visited.slab key ≡ Some d → get from.slab key ≡ o → d.connection.is_closing ≡ false → IsWaitedFor begins ways full failed (rounds ++ its_round ∷ []) d
+    timed_visited key d None got was open_still = absurd (no_box (get visited.slab key) d (round.none key was) got)
+    timed_visited key d (Some c) got was open_still = elim (visited_or_same key c d was got) [
+      | inl same ↦
+          let its : IsWaitedFor begins ways full failed rounds d = subst (λ (x : Client T). IsWaitedFor begins ways full failed rounds x) same
+          (fits.timed key c was (ap (λ (x : Client T). x.connection.is_closing) same ∙ open_still)) in
+          waited_still d (served_by.suits.boxed key d got) open_still (subst (λ (x : Client T). IsMinded begins ways full failed x) same (fits.minded key c was)) its
+      | inr there ↦
+          let out = there.2 there.1 open_still in
+          let timed = there.3 open_still in
+          waited_visited c d there.0 (served_by.suits.boxed key d got) open_still out.written timed (fits.timed key c was timed.keeps.open_still)
+    ]
+
+    pub fit : Fits begins ways full failed (rounds ++ its_round ∷ []) visited served_by.after
+    fit = record {
+      suits = suits_more begins ways full failed rounds its_round visited served_by.after served_by.suits;
       minded = λ key d got. minded_visited key d (get from.slab key) got refl;
-      within = λ n held. inl (yes_of (found visited.slab.slots n) held);
-    })
+      timed = λ key d got. timed_visited key d (get from.slab key) got refl;
+    }
 
-    kept_so : (n : ℕ) → IsHeld begins ways to n → IsHeld begins ways from n ⊎ (served_by.after n ≡ None)
-    kept_so n held = elim (fit.within n held) [
-      | inl known ↦
-          let was = of_yes (found visited.slab.slots n) known in
-          let before = held_before begins ways used_up full status users may_give is_due from visited old new n was.0 was.1 (get from.slab was.0) round was.2 was.3 refl in
-          inl (was.0, before.0, before.1, before.2)
-      | inr none ↦ inr none
-    ]
+    -- ---- who is left out
 
-    -- one that is gone after the visits is not held later
-    gone_so : (n key : ℕ) (c : Client T) (box : Box) → get from.slab key ≡ Some c → c.serial ≡ n → served_by.after n ≡ Some box → get visited.slab key ≡ None → IsHeld begins ways to n → ⊥
-    gone_so n key c box got serial is now held = elim (fit.within n held) [
-      | inl known ↦
-          let was = of_yes (found visited.slab.slots n) known in
-          let before = held_before begins ways used_up full status users may_give is_due from visited old new n was.0 was.1 (get from.slab was.0) round was.2 was.3 refl in
-          let same : was.0 ≡ key = suits.apart was.0 key before.0 c before.1 got (before.2 ∙ sym serial) in
-          no_box (get visited.slab key) was.1 now (ap (get visited.slab) (sym same) ∙ was.2)
-      | inr none ↦ no_box (served_by.after n) box none is
-    ]
-
-    visited_so : (n key : ℕ) (c : Client T) (box : Box) (o : Option (Client T)) → get from.slab key ≡ Some c → c.serial ≡ n → served_by.after n ≡ Some box → get visited.slab key ≡ o
-        → IsThereAfter used_up full (Contains round.by c.serial) c o → Says served_by.after round.by to n
-    visited_so n key c box None got serial is now there = inr (inr (inr (gone_so n key c box got serial is now)))
-    visited_so n key c box (Some d) got serial is now (same, waits, left) =
-        left_so served_by.after round.by to d n box (same ∙ serial) is (served_by.suits.boxed key d now) waits (subst (λ m. IsLeft used_up full (Contains round.by m) d) serial left)
-
-    held_so : (n key : ℕ) (c : Client T) (before box : Box) → ((k : ℕ) (x : Client T) → x.waits_for ≡ For.Visit → is_due k x) → get from.slab key ≡ Some c → c.serial ≡ n
-        → boxes n ≡ Some before → before.is_over ≡ false → HoldsWhole before.held → served_by.after n ≡ Some box → Says served_by.after round.by to n
-    held_so n key c before box due got serial was open_still whole is =
-        let b = suits.boxed key c got in
-        let same : b.box ≡ before = its_box boxes c n before serial was b in
-        let open_box : b.box.is_over ≡ false = ap (λ x. x.is_over) same ∙ open_still in
-        let minds = minded key c got (sym b.over ∙ open_box) in
-        let whole_of : HoldsWhole c.inbox = subst HoldsWhole (ap (λ x. x.held) (sym same) ∙ b.held open_box) whole in
-        elim (round.either key c got) [
-          | inl still ↦ elim (minds.0 whole_of) [
-            | inl waits ↦ visited_so n key c box (Some c) got serial is still (subst (λ o. IsThereAfter used_up full (Contains round.by c.serial) c o) still (round.each key c got (due key c waits)))
-            | inr some ↦ inr (inr (inl (is_full served_by.after c n box serial is (served_by.suits.boxed key c still) some (minds.1 some))))
+    -- one that was visited
+    visited_so : (n key : ℕ) (c : Client T) (o : Option (Client T)) → get from.slab key ≡ Some c → c.serial ≡ n → get visited.slab key ≡ o → There c o → SaysSince (ways c.stream) served_by.after round.by n
+    visited_so n key c None got serial now_there (inl are_turns) = inl (subst (Contains round.by) serial are_turns)
+    visited_so n key c None got serial now_there (inr (d, drains, done, tried)) = elim (turn_or_same begins status (users old) may_give boxes served_by.after (as_store_and_clock old) (as_store_and_clock new) served_by.turns n served_by.are_turns) [
+      | inl turned ↦ inl (subst (λ l. Contains l n) served_by.by turned)
+      | inr same ↦
+          elim (gone_of begins ways full failed boxes d n (ways c.stream) (drains.serial ∙ serial) (boxed_drains begins ways boxes c d drains (fits.suits.boxed key c got)) done tried) [
+            | inl over ↦ inr (inl (still_over begins ways full failed boxes served_by.after n same over))
+            | inr refused ↦ inr (inr (still_refused begins ways full failed boxes served_by.after n (ways c.stream) same refused))
           ]
-          | inr there ↦ visited_so n key c box (get visited.slab key) got serial is refl there
+    ]
+    visited_so n key c (Some d) got serial now_there there =
+        left_so (ways c.stream) served_by.after round.by d n (there.0 ∙ serial) (served_by.suits.boxed key d now_there) there.1
+        (subst (λ m. IsLeft ways used_up full failed (Contains round.by m) (ways c.stream) d) serial there.2)
+
+    -- one of which a whole message is held
+    held_so : (n key : ℕ) (c : Client T) (box : Box) → get from.slab key ≡ Some c → c.serial ≡ n → boxes n ≡ Some box → box.is_over ≡ false → HoldsWhole box.held → Says served_by.after round.by n
+    held_so n key c box got serial was open_still whole =
+        let b = fits.suits.boxed key c got in
+        let same : b.box ≡ box = subst (λ o. IsThere begins o b.box) (ap boxes serial ∙ was) b.there in
+        let open_box : b.box.is_over ≡ false = ap (λ (x : Box). x.is_over) same ∙ open_still in
+        let minds = fits.minded key c got (sym b.over ∙ open_box) in
+        let whole_of : HoldsWhole c.connection.held = subst HoldsWhole (ap (λ (x : Box). x.held) (sym same) ∙ b.held open_box) whole in
+        elim (minds.0 whole_of) [
+          | inl waits ↦ says_so (ways c.stream) served_by.after round.by n (visited_so n key c (get visited.slab key) got serial refl (round.each key c got (inr waits)))
+          | inr some ↦ elim (round.either key c got) [
+            | inl still ↦ inr (inr (stuck_of begins ways full failed served_by.after c n serial (served_by.suits.boxed key c still) some (inl (minds.1 some))))
+            | inr there ↦ says_so (ways c.stream) served_by.after round.by n (visited_so n key c (get visited.slab key) got serial refl there)
+          ]
         ]
 
-    pub one_round : ((k : ℕ) (x : Client T) → x.waits_for ≡ For.Visit → is_due k x) → IsOneRound from boxes old served_by.turns to served_by.after new
-    one_round due = record {
-      had = served_by.had;
+    -- one that was let go while bytes waited
+    gone_stuck : (n : ℕ) (box : Box) → boxes n ≡ Some box → (gone : IsLetGo ways full failed rounds n box) → gone.rest ≢ [] → full gone.stream ⊎ failed gone.stream → Says served_by.after round.by n
+    gone_stuck n box was gone some refused = elim (turn_or_same begins status (users old) may_give boxes served_by.after (as_store_and_clock old) (as_store_and_clock new) served_by.turns n served_by.are_turns) [
+      | inl turned ↦ inl (subst (λ l. Contains l n) served_by.by turned)
+      | inr same ↦ inr (inr (record { box = box; there = same ∙ was; stream = gone.stream; rest = gone.rest; since = gone.since; some = some; refused = refused }))
+    ]
+
+    gone_so : (n : ℕ) (box : Box) → boxes n ≡ Some box → box.is_over ≡ false → HoldsWhole box.held → (gone : IsLetGo ways full failed rounds n box) → IsCause ways full failed rounds n box gone.stream gone.rest → Says served_by.after round.by n
+    gone_so n box was open_still whole gone (inl over) = let e : true ≡ false = sym over ∙ open_still in absurd cc
+    gone_so n box was open_still whole gone (inr (inl (some, inl broken))) = gone_stuck n box was gone some (inr broken)
+    gone_so n box was open_still whole gone (inr (inl (some, inr (no_more, late)))) = gone_stuck n box was gone some (inl no_more)
+    gone_so n box was open_still whole gone (inr (inr (none, inl idle))) = absurd (whole.0 idle)
+    gone_so n box was open_still whole gone (inr (inr (none, inr (unwhole, part)))) = absurd (unwhole whole)
+
+    -- whoever had a turn before
+    whole_so : (n : ℕ) (box : Box) → boxes n ≡ Some box → box.is_over ≡ false → HoldsWhole box.held → Says served_by.after round.by n
+    whole_so n box was open_still whole = elim (fits.suits.ended n box was) [
+      | inl held ↦ held_so n held.0 held.1 box held.2 held.3 was open_still whole
+      | inr gone ↦ gone_so n box was open_still whole gone gone.why
+    ]
+
+    pub one_round : IsOneRound rounds boxes old its_round new
+    one_round = record {
+      are_turns = served_by.are_turns;
       same = served_by.same;
-      served = λ n box was open_still whole.
-          let there = grown begins status (users old) may_give boxes served_by.after (both old) (both new) served_by.turns n box served_by.had was in
-          subst (λ l. Says served_by.after l to n) (sym served_by.by)
-          (elim (found from.slab.slots n) [
-            | inl held ↦ held_so n held.0 held.1 box there.0 due held.2 held.3 was open_still whole there.1
-            | inr none ↦ inr (inr (inr (λ held. elim (kept_so n held) [
-              | inl before ↦ none before
-              | inr gone ↦ no_box (served_by.after n) there.0 gone there.1
-            ])))
-          ]);
-      only = λ n has. round.alone n (subst (λ l. Contains l n) served_by.by has);
-      kept = kept_so;
+      fair = record {
+        held = λ k box is. elim (fits.suits.ended k box is) [
+          | inl held ↦ inl (held.0, standing ways held.1, ap (standing_of ways) held.2, held.3)
+          | inr gone ↦ inr (box, is, gone)
+        ];
+        reported = λ key s there has.
+            let its = stands ways (get from.slab key) s there in
+            subst (λ l. SaysSince s.ways served_by.after l s.who) (sym served_by.by)
+            (subst (λ (x : Standing). SaysSince x.ways served_by.after round.by x.who) its.2 (visited_so its.0.serial key its.0 (get visited.slab key) its.1 refl refl (round.each key its.0 its.1 (inl has))));
+        whole = λ k box is open_still holds. subst (λ l. Says served_by.after l k) (sym served_by.by) (whole_so k box is open_still holds);
+        alone = λ k has.
+            let held : IsHeld begins ways from k = round.alone k (subst (λ l. Contains l k) served_by.by has) in
+            (held.0, standing ways held.1, ap (standing_of ways) held.2, held.3);
+        few = λ k. subst (λ l. turns_of k l ≤ most_turns) (sym served_by.by) (round.few fits.suits.apart k);
+      };
     }
 
   -- ---- round after round
 
-  abbrev pub Chain : Clients T → Boxes → E → List (List Made) → Clients T → Boxes → E → Type 0
-  Chain from boxes old [] to after new = (to ≡ from) × (after ≡ boxes) × (new ≡ old)
-  Chain from boxes old (ts ∷ rounds) to after new =
-      (mid : Clients T) × (between : Boxes) × (at : E) × IsOneRound from boxes old ts mid between at × Chain mid between at rounds to after new
+  abbrev pub Chain : List Round → Boxes → E → List Round → Boxes → E → Type 0
+  Chain before boxes old [] after new = (after ≡ boxes) × (new ≡ old)
+  Chain before boxes old (r ∷ rounds) after new = (at : E) × IsOneRound before boxes old r at × Chain (before ++ r ∷ []) r.after at rounds after new
 
-  one_more : (from mid to : Clients T) (boxes between after : Boxes) (old at new : E) (rounds : List (List Made)) (ts : List Made) → Chain from boxes old rounds mid between at → IsOneRound mid between at ts to after new
-      → Chain from boxes old (rounds ++ ts ∷ []) to after new
-  one_more from mid to boxes between after old at new [] ts (is_mid, is_between, is_at) one = (
-    to,
-    after,
+  one_more : (before : List Round) (boxes between : Boxes) (old at new : E) (rounds : List Round) (r : Round) → Chain before boxes old rounds between at → IsOneRound (before ++ rounds) between at r new
+      → Chain before boxes old (rounds ++ r ∷ []) r.after new
+  one_more before boxes between old at new [] r (is_between, is_at) one = (
     new,
-    subst (λ (c : Clients T). IsOneRound c boxes old ts to after new) is_mid (subst (λ (b : Boxes). IsOneRound mid b old ts to after new) is_between
-        (subst (λ (e : E). IsOneRound mid between e ts to after new) is_at one)),
-    (refl, refl, refl),
+    subst (λ (l : List Round). IsOneRound l boxes old r new) (append-nil before)
+        (subst (λ (b : Boxes). IsOneRound (before ++ []) b old r new) is_between (subst (λ (e : E). IsOneRound (before ++ []) between e r new) is_at one)),
+    (refl, refl),
   )
-  one_more from mid to boxes between after old at new (us ∷ rounds) ts (first, boxed, begun, here, rest) one =
-      (first, boxed, begun, here, one_more first mid to boxed between after begun at new rounds ts rest one)
+  one_more before boxes between old at new (q ∷ rounds) r (begun, here, rest) one =
+      (begun, here, one_more (before ++ q ∷ []) q.after between begun at new rounds r rest (subst (λ (l : List Round). IsOneRound l between at r new) (sym (append_assoc before (q ∷ []) rounds)) one))
 
-  -- one that is not held any more has no turn
-  no_more : (k : ℕ) (from to : Clients T) (boxes after : Boxes) (old new : E) (rounds : List (List Made)) (box : Box) → Chain from boxes old rounds to after new → (IsHeld begins ways from k → ⊥) → boxes k ≡ Some box
-      → Contains (whose (joined rounds)) k → ⊥
-  no_more k from to boxes after old new [] box chain not is has = contains_none k has
-  no_more k from to boxes after old new (ts ∷ rounds) box (mid, between, at, one, rest) not is has =
-      let later = grown begins status (users old) may_give boxes between (both old) (both at) ts k box one.had is in
-      elim (Contains-append_cases (whose ts) (whose (joined rounds)) k (subst (λ l. Contains l k) (whose_both ts (joined rounds)) has)) [
-        | inl here ↦ not (one.only k here)
-        | inr next ↦ no_more k mid to between after at new rounds later.0 rest (λ held. elim (one.kept k held) [ inl was ↦ not was | inr none ↦ no_box (between k) later.0 none later.1 ]) later.1 next
-      ]
-
-  none_forgotten : (from mid to : Clients T) (boxes between after : Boxes) (old at new : E) (ts : List Made) (rounds : List (List Made)) → IsOneRound from boxes old ts mid between at → Chain mid between at rounds to after new
-      → NoneForgotten (IsFull ways full) boxes between ts (joined rounds)
-  none_forgotten from mid to boxes between after old at new ts rounds one rest k box is open_still whole = elim (one.served k box is open_still whole) [
-    | inl had ↦ inl had
-    | inr others ↦ elim others [
-      | inl over ↦ inr (inl over)
-      | inr either ↦ elim either [
-        | inl full_so ↦ inr (inr (inl full_so))
-        | inr gone ↦
-            let later = grown begins status (users old) may_give boxes between (both old) (both at) ts k box one.had is in
-            inr (inr (inr (no_more k mid to between after at new rounds later.0 rest gone later.1)))
-      ]
-    ]
-  ]
-
-  pub chain_rounds : (from to : Clients T) (boxes after : Boxes) (old new : E) (rounds : List (List Made)) → Chain from boxes old rounds to after new
-      → AreRounds begins (IsFull ways full) status (users old) may_give boxes (both old) rounds after (both new)
-  chain_rounds from to boxes after old new [] (is_to, is, same) = (is, ap both same)
-  chain_rounds from to boxes after old new (ts ∷ rounds) (mid, between, at, one, rest) = (
-    between,
-    both at,
-    one.had,
-    none_forgotten from mid to boxes between after old at new ts rounds one rest,
-    subst (λ u. AreRounds begins (IsFull ways full) status u may_give between (both at) rounds after (both new)) one.same (chain_rounds mid to between after at new rounds rest),
+  pub chain_rounds : (before : List Round) (boxes after : Boxes) (old new : E) (rounds : List Round) → Chain before boxes old rounds after new
+      → AreRounds begins (IsRefused ways full failed) (IsStuck ways full failed) (WasLetGo ways full failed) status (users old) may_give before boxes (as_store_and_clock old) rounds after (as_store_and_clock new)
+  chain_rounds before boxes after old new [] (is, same) = (is, ap as_store_and_clock same)
+  chain_rounds before boxes after old new (r ∷ rounds) (at, one, rest) = (
+    as_store_and_clock at,
+    one.are_turns,
+    one.fair,
+    subst (λ u. AreRounds begins (IsRefused ways full failed) (IsStuck ways full failed) (WasLetGo ways full failed) status u may_give (before ++ r ∷ []) r.after (as_store_and_clock at) rounds after (as_store_and_clock new)) one.same
+        (chain_rounds (before ++ r ∷ []) r.after after at new rounds rest),
   )
 
-  chain_turns : (from to : Clients T) (boxes after : Boxes) (old new : E) (rounds : List (List Made)) → Chain from boxes old rounds to after new
-      → AreTurns begins status (users old) may_give boxes (both old) (joined rounds) after (both new)
-  chain_turns from to boxes after old new [] (is_to, is, same) = (is, ap both same)
-  chain_turns from to boxes after old new (ts ∷ rounds) (mid, between, at, one, rest) =
-      joined_turns begins status (users old) may_give boxes between after (both old) (both at) (both new) ts (joined rounds) one.had
-      (subst (λ u. AreTurns begins status u may_give between (both at) (joined rounds) after (both new)) one.same (chain_turns mid to between after at new rounds rest))
+  pub chain_turns : (before : List Round) (boxes after : Boxes) (old new : E) (rounds : List Round) → Chain before boxes old rounds after new → AreTurns begins status (users old) may_give boxes (as_store_and_clock old) (joined rounds) after (as_store_and_clock new)
+  chain_turns before boxes after old new [] (is, same) = (is, ap as_store_and_clock same)
+  chain_turns before boxes after old new (r ∷ rounds) (at, one, rest) =
+      joined_turns begins status (users old) may_give boxes r.after after (as_store_and_clock old) (as_store_and_clock at) (as_store_and_clock new) r.turns (joined rounds) one.are_turns
+      (subst (λ u. AreTurns begins status u may_give r.after (as_store_and_clock at) (joined rounds) after (as_store_and_clock new)) one.same (chain_turns (before ++ r ∷ []) r.after after at new rounds rest))
 
-  -- the rounds so far, from no connection on
-  pub record AreGoing (clients : Clients T) (old new : E) : Type 0 where
-    pub first : Clients T
-    pub rounds : List (List Made)
+  reports_more : (rounds : List Round) (r : Round) → reports_of (rounds ++ r ∷ []) ≡ reports_of rounds ++ r.ready ∷ []
+  reports_more [] r = refl
+  reports_more (q ∷ rounds) r = ap (λ l. q.ready ∷ l) (reports_more rounds r)
+
+  -- the rounds so far, by these reports, each at a reading of the clock, from no connection on
+  pub record AreGoing (shows : Shows) (kept : Option (List (List Ready))) (readies : List (List Ready)) (clients : Clients T) (old new : E) : Type 0 where
+    pub rounds : List Round
+    pub by : reports_of rounds ≡ readies
+    pub read : AreRead shows kept rounds
     pub after : Boxes
-    pub chain : Chain first nothing_yet old rounds clients after new
-    pub suits : Suits begins ways clients after
-    pub minded : AllMinded clients
+    pub chain : Chain [] nothing_yet old rounds after new
+    pub fits : Fits begins ways full failed rounds clients after
 
-  pub going_none : (clients : Clients T) (s : E) → Suits begins ways clients nothing_yet → AllMinded clients → AreGoing clients s s
-  going_none clients s suits minded = record { first = clients; rounds = []; after = nothing_yet; chain = (refl, refl, refl); suits = suits; minded = minded }
+  pub going_none : (shows : Shows) (kept : Option (List (List Ready))) (clients : Clients T) (s : E) → Fits begins ways full failed [] clients nothing_yet → AreGoing shows kept [] clients s s
+  going_none shows kept clients s fits = record { rounds = []; by = refl; read = tt; after = nothing_yet; chain = (refl, refl); fits = fits }
 
-  pub going_on : (is_due : ℕ → Client T → Type 0) (from visited to : Clients T) (old at new : E) → AreGoing from old at → ((k : ℕ) (x : Client T) → x.waits_for ≡ For.Visit → is_due k x)
-      → IsRound begins ways used_up full status users may_give is_due from visited at new → StaysFit begins ways full visited to → AreGoing to old new
-  going_on is_due from visited to old at new going due round stays =
-      let served = round.visited going.after going.suits in
-      let fits = fit is_due from visited to going.after at new round stays going.suits going.minded in
+  pub going_on : (shows : Shows) (now : Instant) (kept : Option (List (List Ready))) (readies : List (List Ready)) (ready : List Ready) (from visited to : Clients T) (old at new : E) → AreGoing shows kept readies from old at
+      → IsReadAt shows (with_reports kept readies) ready now
+      → IsRound begins ways used_up full failed now status users may_give (IsDue ready) from visited at new → StaysFitAt begins ways full failed now visited to → AreGoing shows kept (readies ++ ready ∷ []) to old new
+  going_on shows now kept readies ready from visited to old at new going shown round stays =
+      let r = its_round now ready from visited going.rounds going.after at new round going.fits in
       record {
-        first = going.first;
-        rounds = going.rounds ++ served.turns ∷ [];
-        after = served.after;
-        chain = one_more going.first from to nothing_yet going.after served.after old at new going.rounds served.turns going.chain
-            (one_round is_due from visited to going.after at new round stays going.suits going.minded due);
-        suits = fits.suits;
-        minded = fits.minded;
+        rounds = going.rounds ++ r ∷ [];
+        by = reports_more going.rounds r ∙ ap (λ l. l ++ ready ∷ []) going.by;
+        read = read_more shows kept going.rounds r going.read (subst (λ l. IsReadAt shows (with_reports kept l) ready now) (sym going.by) shown);
+        after = r.after;
+        chain = one_more [] nothing_yet going.after old at new going.rounds r going.chain (one_round now ready from visited going.rounds going.after at new round going.fits);
+        fits = stays (going.rounds ++ r ∷ []) r.after (going.rounds, r, refl, refl) (fit now ready from visited going.rounds going.after at new round going.fits);
       }
 
-  pub going_all : (n : ℕ) (from to : Clients T) (old at new : E) → AreGoing from old at → RoundsOn begins ways used_up full status users may_give n from to at new → AreGoing to old new
-  going_all zero from to old at new going (is, same) = subst (λ (c : Clients T). AreGoing c old new) (sym is) (subst (λ (e : E). AreGoing from old e) (sym same) going)
-  going_all (suc n) from to old at new going (ready, mid, between, round, rest) =
-      going_all n mid to old between new (going_on (IsDue ready) from mid mid old at between going (λ k x waits. inr waits) round (λ boxes is_known fits. fits)) rest
+  pub going_all : (shows : Shows) (kept : Option (List (List Ready))) (readies more : List (List Ready)) (from to : Clients T) (old at new : E) → AreGoing shows kept readies from old at
+      → RoundsOn begins ways used_up full failed shows status users may_give (with_reports kept readies) more from to at new → AreGoing shows kept (readies ++ more) to old new
+  going_all shows kept readies [] from to old at new going (is, same) =
+      subst (λ l. AreGoing shows kept l to old new) (sym (append-nil readies)) (subst (λ (c : Clients T). AreGoing shows kept readies c old new) (sym is) (subst (λ (e : E). AreGoing shows kept readies from old e) (sym same) going))
+  going_all shows kept readies (ready ∷ more) from to old at new going (now, shown, mid, between, round, rest) =
+      subst (λ l. AreGoing shows kept l to old new) (append_assoc readies (ready ∷ []) more)
+      (going_all shows kept (readies ++ ready ∷ []) more mid to old between new (going_on shows now kept readies ready from mid mid old at between going shown round (λ rounds boxes at fits. fits))
+      (subst (λ o. RoundsOn begins ways used_up full failed shows status users may_give o more mid to between new) (with_then kept readies (ready ∷ [])) rest))
 
-  pub attended_so : (clients : Clients T) (old new : E) → AreGoing clients old new → AreAttendedInRounds begins (IsFull ways full) status (users old) may_give (both old) (both new)
-  attended_so clients old new going = record {
-    attended = attended begins status (users old) may_give (both old) (both new) (joined going.rounds) going.after
-        (chain_turns going.first clients nothing_yet going.after old new going.rounds going.chain) (all_ended begins ways clients going.after going.suits);
+  -- the rounds by which the serving ends
+  pub going_to_end : (shows : Shows) (now : Instant) (kept : Option (List (List Ready))) (readies : List (List Ready)) (ready : List Ready) (from to : Clients T) (old at new : E) (a b : Option (List (List Ready)))
+      → AreGoing shows kept readies from old at → a ≡ with_reports kept (readies ++ ready ∷ []) → IsReadAt shows (with_reports kept readies) ready now
+      → (goes : GoOn begins ways used_up full failed shows status users may_give now from to at new a b) → AreGoing shows kept (readies ++ ready ∷ goes.later) to old new
+  going_to_end shows now kept readies ready from to old at new a b going stated shown goes =
+      subst (λ l. AreGoing shows kept l to old new) (append_assoc readies (ready ∷ []) goes.later)
+      (going_all shows kept (readies ++ ready ∷ []) goes.later goes.mid to old goes.at new (going_on shows now kept readies ready from goes.mid goes.mid old at goes.at going shown
+      (round_fewer begins ways used_up full failed now status users may_give (λ _ _. ⊤) (IsDue ready) from goes.mid at goes.at (λ key x due. tt) goes.begun) (λ rounds boxes at fits. fits))
+      (subst (λ o. RoundsOn begins ways used_up full failed shows status users may_give o goes.later goes.mid to goes.at new) stated goes.rounds))
+
+  abbrev pub attended_so : (shows : Shows) (readies last : List (List Ready)) (clients : Clients T) (old new : E) (a b : Option (List (List Ready))) → AreGoing shows a readies clients old new → length last ≤ 1 → Reports a b (readies ++ last)
+      → AreAttendedInRounds begins (IsRefused ways full failed) (IsStuck ways full failed) (WasLetGo ways full failed) status (users old) may_give shows a b (as_store_and_clock old) (as_store_and_clock new)
+  attended_so shows readies last clients old new a b going one reported = record {
+    attended = attended begins status (users old) may_give (as_store_and_clock old) (as_store_and_clock new) (joined going.rounds) going.after
+        (chain_turns [] nothing_yet going.after old new going.rounds going.chain) (all_ended begins ways full failed going.rounds clients going.after going.fits.suits);
     rounds = going.rounds;
     all = refl;
-    had = chain_rounds going.first clients nothing_yet going.after old new going.rounds going.chain;
+    are_turns = chain_rounds [] nothing_yet going.after old new going.rounds going.chain;
+    read = going.read;
+    last = last;
+    one = one;
+    reported = subst (λ l. Reports a b (l ++ last)) (sym going.by) reported;
+  }
+
+  -- and those that are held then
+  pub served_so : (shows : Shows) (readies last : List (List Ready)) (clients : Clients T) (old new : E) (a b : Option (List (List Ready))) → AreGoing shows a readies clients old new → length last ≤ 1 → Reports a b (readies ++ last)
+      → AreServedInRounds begins ways full failed status (users old) may_give shows a b clients old new
+  served_so shows readies last clients old new a b going one reported = record { is = attended_so shows readies last clients old new a b going one reported; suits = going.fits.suits }
+
+  pub served_now : (shows : Shows) (readies : List (List Ready)) (clients : Clients T) (old new : E) (a b : Option (List (List Ready))) → AreGoing shows a readies clients old new → Reports a b readies
+      → AreServedInRounds begins ways full failed status (users old) may_give shows a b clients old new
+  served_now shows readies clients old new a b going reported = served_so shows readies [] clients old new a b going (omega arith) (subst (Reports a b) (sym (append-nil readies)) reported)
+
+  -- the rounds from one to another give nobody a number
+  next_on : (shows : Shows) (kept : Option (List (List Ready))) (readies : List (List Ready)) (from to : Clients T) (old new : E) → RoundsOn begins ways used_up full failed shows status users may_give kept readies from to old new → to.next ≡ from.next
+  next_on shows kept [] from to old new (is, same) = ap (λ (c : Clients T). c.next) is
+  next_on shows kept (ready ∷ readies) from to old new (now, shown, mid, at, round, rest) = next_on shows (with_reports kept (ready ∷ [])) readies mid to at new rest ∙ round.next
+
+  pub next_to_end : (shows : Shows) (now : Instant) (from to : Clients T) (old new : E) (a b : Option (List (List Ready))) → GoOn begins ways used_up full failed shows status users may_give now from to old new a b → to.next ≡ from.next
+  next_to_end shows now from to old new a b goes = next_on shows a goes.later goes.mid to goes.at new goes.rounds ∙ goes.begun.next
+
+  pub served_none : (shows : Shows) (clients : Clients T) (s : E) (a : Option (List (List Ready))) → Fits begins ways full failed [] clients nothing_yet
+      → AreServedInRounds begins ways full failed status (users s) may_give shows a a clients s s
+  served_none shows clients s a fits = served_now shows [] clients s s a a (going_none shows a clients s fits) (reports_none a)
+
+module _ {T E : Type 0} (begins : Option Ways → Bool) (ways : T → Option Ways) (full failed : T → Type 0) (status : E → Status) (users : List ℕ → Option ℕ) (may_give : E → ℕ → E → Type 0) where
+  -- those that the door gave, as all of them were let go
+  of_door : (given_old given_new : ℕ) (rounds : List Round) (held none : Clients T) (after : Boxes) (old new : StoreAndClock E E) (ts : List Turn) → given_new ≡ given_old + held.next → Suits begins ways full failed rounds held after
+      → AreAllParted begins ways full failed held none → AreTurns begins status users may_give nothing_yet old ts after new → AreOfDoor begins given_old given_new (map ways none.parted.log.items) ts
+  of_door given_old given_new rounds held none after old new ts given suits all turns =
+      let p = all.parted rounds after suits in
+      let next = all.next in
+      let there : (k : ℕ) → k < none.next → Contains p.who k = λ k small. elim (p.all k small) [
+        | inl still ↦ absurd (all.none still.0 still.1 still.2)
+        | inr has ↦ has
+      ] in
+      record {
+        who = p.who;
+        distinct = p.distinct;
+        all = λ k small. there k (omega (arith, next, given, small));
+        given = λ k has. let small = (p.gone k has).0 in omega (arith, next, given, small);
+        known = λ k has. elim (cases_lt k none.next) [
+          | inl small ↦ there k small
+          | inr more ↦ absurd (no_turn begins status users may_give k nothing_yet after old new ts (suits.fresh k (omega (arith, next, more))) turns has)
+        ];
+        each = each_end begins status users may_give ways old new after ts p.who none.parted.log.items turns p.each;
+      }
+
+  pub served_at_door : (shows : Shows) (a b : Option (List (List Ready))) (given_old given_new : ℕ) (held none : Clients T) (parted : Parted T) (old new : E) → given_new ≡ given_old + held.next
+      → AreServedInRounds begins ways full failed status users may_give shows a b held old new → AreAllParted begins ways full failed held none → parted ≡ none.parted
+      → AreServedAtDoor begins ways full failed status users may_give shows a b given_old given_new parted (as_store_and_clock old) (as_store_and_clock new)
+  served_at_door shows a b given_old given_new held none parted old new given served all is = record {
+    served = served.is;
+    at_door = subst (λ (p : Parted T). AreOfDoor begins given_old given_new (map ways p.log.items) served.is.attended.turns) (sym is)
+        (of_door given_old given_new served.is.rounds held none served.is.attended.after (as_store_and_clock old) (as_store_and_clock new) served.is.attended.turns given served.suits all served.is.attended.are_turns);
+  }
+
+  -- nobody came
+  pub at_door_none : (shows : Shows) (a : Option (List (List Ready))) (given : ℕ) (parted : Parted T) (s : E) → parted.log.items ≡ []
+      → AreServedAtDoor begins ways full failed status users may_give shows a a given given parted (as_store_and_clock s) (as_store_and_clock s)
+  at_door_none shows a given parted s none = record {
+    served = attended_none begins status users may_give (IsRefused ways full failed) (IsStuck ways full failed) (WasLetGo ways full failed) shows a (as_store_and_clock s);
+    at_door = subst (λ (ts : List Turn). AreOfDoor begins given given (map ways parted.log.items) ts)
+        (sym (none_attended begins status users may_give (IsRefused ways full failed) (IsStuck ways full failed) (WasLetGo ways full failed) shows a (as_store_and_clock s))) (record {
+          who = [];
+          distinct = tt;
+          all = λ k small. absurd (omega (arith, small));
+          given = λ k has. let small = has.1 in absurd (omega (arith, small));
+          known = λ k has. let small = has.1 in absurd (omega (arith, small));
+          each = subst (λ (l : List T). EndAs begins [] [] (map ways l)) (sym none) tt;
+        });
   }

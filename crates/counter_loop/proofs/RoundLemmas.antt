@@ -1,21 +1,28 @@
 -- Connections that are visited one after another.
-use Rattle.std.proofs.Common.{◌≡◌, ◌≢◌, ◌⊎◌, ◌+◌, ◌<◌, ◌≤◌, ℕ, zero, suc, Bool, List, [], ◌∷◌, ◌++◌, inl, inr, Option, Some, None, refl, sym, ap, subst, ◌∙◌, arith, All, Contains, get_or, length, take}
+use Rattle.std.proofs.Common.{◌≡◌, ◌⊎◌, ◌+◌, ◌<◌, ◌≤◌, ℕ, Bool, List, [], ◌∷◌, ◌++◌, inl, inr, Option, Some, None, refl, sym, ap, subst, ◌∙◌, arith, Contains, append-nil, get_or, length, take}
+use Rattle.std.specs.Prelude.{⊤, IsSome}
 use Rattle.std.proofs.lemmas.Bool.{cases_eq}
-use Rattle.std.proofs.lemmas.List.Elements.{All-contains, All-head, Contains-append_left, Contains-append_right, Contains-append_cases, Contains-push_cases}
+use Rattle.std.proofs.lemmas.List.Elements.{Contains-push_cases}
 use Rattle.std.proofs.lemmas.List.{take_all, take_more}
-use Rattle.slab.specs.Slab.{get}
+use Rattle.std.specs.declared.time.Instant.{Instant}
+use Rattle.slab.specs.Slab.{Updates, get, with_value}
+use Rattle.slab.proofs.SlabLemmas.{Updates-with_value}
 use Rattle.store_rows.specs.Status.{Status}
-use Rattle.counter_loop.specs.Boxes.{IsHeld}
-use Rattle.counter_loop.specs.Rounds.{GoOn, IsDue, IsRound, RoundsOn}
-use Rattle.counter_loop.specs.Served.{EachIsServed, IsLeft, IsServedAt, IsServedUnder, IsThereAfter}
-use Rattle.counter_loop.specs.Ways.{Ways}
+use Rattle.counter_loop.specs.Boxes.{Drains, called}
+use Rattle.counter_door.specs.Readiness.{IsReadAt, Reports, with_reports}
+use Rattle.counter_loop.specs.Rounds.{GoOn, IsCalled, IsDue, IsRound, RoundsOn}
+use Rattle.counter_loop.specs.Served.{EachIsServed, IsThereAfter}
+use Rattle.counter_door.specs.Ways.{Ways}
 use Rattle.counter_loop.specs.declared.client.Client.{Client}
 use Rattle.counter_loop.specs.declared.client.WaitsFor.{WaitsFor}
 use Rattle.counter_loop.specs.declared.client.WaitsFor.TheVariants as For
 use Rattle.counter_loop.specs.declared.clients.Clients.{Clients}
-use Rattle.counter_loop.specs.declared.readiness.Ready.{Ready}
-use Rattle.counter_loop.specs.declared.readiness.Ready.TheVariants.{Connection, Door, End}
-use Rattle.counter_loop.proofs.BoxLemmas.{all_then, served_none, some_same}
+use Rattle.counter_door.specs.declared.readiness.Ready.{Ready}
+use Rattle.counter_door.specs.declared.readiness.Ready.TheVariants.{Connection, Door, End}
+use Rattle.counter_loop.proofs.BoxLemmas.{some_same}
+use Rattle.counter_loop.proofs.EndLemmas.{timed_uncalled}
+use Rattle.counter_loop.proofs.ReportLemmas.{Shows, reports_by, with_more, with_none, with_then}
+use Rattle.counter_loop.proofs.SuitLemmas.{apart_called, same_serial, suits_called, was_called}
 
 pub waits_or_not : (w : WaitsFor) → (w ≡ For.Visit) ⊎ (w ≡ For.Visit → ⊥)
 waits_or_not For.Client = inr (λ is. let e : For.Client ≡ For.Visit = is in absurd cc)
@@ -25,41 +32,9 @@ waits_or_not For.Nothing = inr (λ is. let e : For.Nothing ≡ For.Visit = is in
 pub contains_none : {X : Type 0} (x : X) → Contains [] x → ⊥
 contains_none x (k, small, is) = omega (arith, small)
 
-its_own : (n : ℕ) (ws : List ℕ) → All (λ w. w ≡ n) ws → ws ≢ [] → Contains ws n
-its_own n [] all some = absurd (some refl)
-its_own n (w ∷ ws) all some = subst (Contains (w ∷ ws)) (All-head (λ x. x ≡ n) w ws all) (0, omega arith, refl)
-
-module _ {T : Type 0} (used_up full : T → Type 0) where
-  left_more : (P Q : Type 0) (c : Client T) → (P → Q) → IsLeft used_up full P c → IsLeft used_up full Q c
-  left_more P Q c more left waits goes =
-      let is = left waits goes in
-      record { turned = elim is.turned [ inl had ↦ inl (more had) | inr wait ↦ inr wait ]; owed = is.owed; read = is.read; written = is.written }
-
-  there_more : (P Q : Type 0) (c : Client T) (o : Option (Client T)) → (P → Q) → IsThereAfter used_up full P c o → IsThereAfter used_up full Q c o
-  there_more P Q c None more is = tt
-  there_more P Q c (Some d) more (serial, waits, left) = (serial, waits, left_more P Q d more left)
-
-  its_again : (P : Type 0) (c d : Client T) (o : Option (Client T)) → d.serial ≡ c.serial → IsThereAfter used_up full P d o → IsThereAfter used_up full P c o
-  its_again P c d None same is = tt
-  its_again P c d (Some e) same (serial, waits, left) = (serial ∙ same, waits, left)
-
-  -- one visit leaves it so, if there was one
-  after_visit : (c : Client T) (after : Option (Client T)) (ws : List ℕ) → IsServedAt used_up full (Some c) after ws → IsThereAfter used_up full (Contains ws c.serial) c after
-  after_visit c after ws (own, is) = there_more (ws ≢ []) (Contains ws c.serial) c after (its_own c.serial ws own.its) is
-
-module _ {T E : Type 0} (begins : Option Ways → Bool) (ways : T → Option Ways) (used_up full : T → Type 0) (status : E → Status) (users : E → List ℕ → Option ℕ) (may_give : E → ℕ → E → Type 0) where
+module _ {T E : Type 0} (begins : Option Ways → Bool) (ways : T → Option Ways) (used_up full failed : T → Type 0) (now : Instant) (status : E → Status) (users : E → List ℕ → Option ℕ) (may_give : E → ℕ → E → Type 0) where
   abbrev Round : (ℕ → Client T → Type 0) → Clients T → Clients T → E → E → Type 0
-  Round = IsRound begins ways used_up full status users may_give
-
-  pub round_none : (is_due : ℕ → Client T → Type 0) (clients : Clients T) (s : E) → ((key : ℕ) (c : Client T) → is_due key c → ⊥) → Round is_due clients clients s s
-  round_none is_due clients s nobody = record {
-    by = [];
-    visited = λ boxes suits. served_none begins ways status users may_give clients boxes s suits;
-    each = λ key c got due. absurd (nobody key c due);
-    either = λ key c got. inl got;
-    none = λ key none. none;
-    alone = λ n has. absurd (contains_none n has);
-  }
+  Round = IsRound begins ways used_up full failed now status users may_give
 
   -- those that were there before a round are those of which there may be turns
   pub held_before : (is_due : ℕ → Client T → Type 0) (from to : Clients T) (old new : E) (n key : ℕ) (d : Client T) (o : Option (Client T)) → Round is_due from to old new → get to.slab key ≡ Some d → d.serial ≡ n
@@ -70,87 +45,12 @@ module _ {T E : Type 0} (begins : Option Ways → Bool) (ways : T → Option Way
     was,
     elim (round.either key c was) [
       | inl same ↦ ap (λ (x : Client T). x.serial) (some_same c d c (sym same ∙ got)) ∙ serial
-      | inr is ↦ let there : IsThereAfter used_up full (Contains round.by c.serial) c (Some d) = subst (λ o. IsThereAfter used_up full (Contains round.by c.serial) c o) got is in sym there.0 ∙ serial
+      | inr is ↦ let there : IsThereAfter ways used_up full failed now (Contains round.by c.serial) c (Some d) = subst (λ o. IsThereAfter ways used_up full failed now (Contains round.by c.serial) c o) got is in sym there.0 ∙ serial
     ],
   )
 
-  after_then : (is_due : ℕ → Client T → Type 0) (mid to : Clients T) (at new : E) (vs : List ℕ) (key : ℕ) (c : Client T) (o : Option (Client T)) → get mid.slab key ≡ o
-      → IsThereAfter used_up full (Contains vs c.serial) c o → (later : Round is_due mid to at new) → IsThereAfter used_up full (Contains (vs ++ later.by) c.serial) c (get to.slab key)
-  after_then is_due mid to at new vs key c None now is later = subst (λ o. IsThereAfter used_up full (Contains (vs ++ later.by) c.serial) c o) (sym (later.none key now)) tt
-  after_then is_due mid to at new vs key c (Some d) now (serial, waits, left) later = elim (later.either key d now) [
-    | inl same ↦
-        subst (λ o. IsThereAfter used_up full (Contains (vs ++ later.by) c.serial) c o) (sym same)
-        (serial, waits, left_more used_up full (Contains vs c.serial) (Contains (vs ++ later.by) c.serial) d (Contains-append_left vs later.by c.serial) left)
-    | inr is ↦
-        its_again used_up full (Contains (vs ++ later.by) c.serial) c d (get to.slab key) serial
-        (there_more used_up full (Contains later.by d.serial) (Contains (vs ++ later.by) c.serial) d (get to.slab key)
-        (λ has. Contains-append_right vs later.by c.serial (subst (Contains later.by) serial has)) is)
-  ]
-
-  after_first : (is_due : ℕ → Client T → Type 0) (mid to : Clients T) (at new : E) (vs : List ℕ) (key : ℕ) (c : Client T) (later : Round is_due mid to at new)
-      → IsThereAfter used_up full (Contains later.by c.serial) c (get to.slab key) → IsThereAfter used_up full (Contains (vs ++ later.by) c.serial) c (get to.slab key)
-  after_first is_due mid to at new vs key c later is =
-      there_more used_up full (Contains later.by c.serial) (Contains (vs ++ later.by) c.serial) c (get to.slab key) (Contains-append_right vs later.by c.serial) is
-
-  pub round_then : (one two is_due : ℕ → Client T → Type 0) (from mid to : Clients T) (old at new : E) → ((key : ℕ) (c : Client T) → is_due key c → one key c ⊎ two key c)
-      → Round one from mid old at → Round two mid to at new → Round is_due from to old new
-  round_then one two is_due from mid to old at new split here later = record {
-    by = here.by ++ later.by;
-    visited = all_then begins ways status users may_give from mid to old at new here.by later.by here.visited later.visited;
-    each = λ key c got due. elim (split key c due) [
-      | inl first ↦ after_then two mid to at new here.by key c (get mid.slab key) refl (here.each key c got first) later
-      | inr second ↦ elim (here.either key c got) [
-        | inl same ↦ after_first two mid to at new here.by key c later (later.each key c same second)
-        | inr is ↦ after_then two mid to at new here.by key c (get mid.slab key) refl is later
-      ]
-    ];
-    either = λ key c got. elim (here.either key c got) [
-      | inl same ↦ elim (later.either key c same) [
-        | inl still ↦ inl still
-        | inr is ↦ inr (after_first two mid to at new here.by key c later is)
-      ]
-      | inr is ↦ inr (after_then two mid to at new here.by key c (get mid.slab key) refl is later)
-    ];
-    none = λ key none. later.none key (here.none key none);
-    alone = λ n has. elim (Contains-append_cases here.by later.by n has) [
-      | inl first ↦ here.alone n first
-      | inr second ↦
-          let held = later.alone n second in
-          let was = held_before one from mid old at n held.0 held.1 (get from.slab held.0) here held.2 held.3 refl in
-          (held.0, was.0, was.1, was.2)
-    ];
-  }
-
-  its_alone : (key n : ℕ) (from : Clients T) (after o : Option (Client T)) (ws : List ℕ) → get from.slab key ≡ o → IsServedAt used_up full o after ws → Contains ws n → IsHeld begins ways from n
-  its_alone key n from after None ws was (gone, none) has = absurd (contains_none n (subst (λ l. Contains l n) none has))
-  its_alone key n from after (Some c) ws was (own, is) has = (key, c, was, sym (All-contains (λ w. w ≡ c.serial) ws n own.its has))
-
-  -- the connection under a key was visited
-  pub round_of_one : (key : ℕ) (from to : Clients T) (old new : E) → IsServedUnder begins ways used_up full status users may_give key from to old new → Round (λ k c. k ≡ key) from to old new
-  round_of_one key from to old new served =
-      let there : (c : Client T) → get from.slab key ≡ Some c → IsThereAfter used_up full (Contains served.by c.serial) c (get to.slab key) =
-      λ c got. after_visit used_up full c (get to.slab key) served.by (subst (λ o. IsServedAt used_up full o (get to.slab key) served.by) got served.its) in
-      let at_key : (k : ℕ) (c : Client T) → get from.slab k ≡ Some c → k ≡ key → IsThereAfter used_up full (Contains served.by c.serial) c (get to.slab k) =
-      λ k c got is. subst (λ j. IsThereAfter used_up full (Contains served.by c.serial) c (get to.slab j)) (sym is) (there c (ap (get from.slab) (sym is) ∙ got)) in
-      record {
-        by = served.by;
-        visited = served.visited;
-        each = at_key;
-        either = λ k c got. elim (cases_eq k key) [
-          | inl is ↦ inr (at_key k c got is)
-          | inr differs ↦ inl (served.others k differs ∙ got)
-        ];
-        none = λ k none. elim (cases_eq k key) [
-          | inl is ↦
-              let at : IsServedAt used_up full None (get to.slab key) served.by = subst (λ o. IsServedAt used_up full o (get to.slab key) served.by) (ap (get from.slab) (sym is) ∙ none) served.its in
-              ap (get to.slab) is ∙ at.0
-          | inr differs ↦ served.others k differs ∙ none
-        ];
-        alone = λ n has. its_alone key n from (get to.slab key) (get from.slab key) served.by refl served.its has;
-      }
-
   -- each of some kind was visited
-  pub round_of_each : (is : Client T → Type 0) (from to : Clients T) (old new : E) → ((c : Client T) → is c ⊎ (is c → ⊥)) → EachIsServed begins ways used_up full status users may_give is from to old new
+  pub round_of_each : (is : Client T → Type 0) (from to : Clients T) (old new : E) → ((c : Client T) → is c ⊎ (is c → ⊥)) → EachIsServed begins ways used_up full failed now status users may_give is from to old new
       → Round (λ k c. is c) from to old new
   round_of_each is from to old new whether served = record {
     by = served.by;
@@ -162,6 +62,59 @@ module _ {T E : Type 0} (begins : Option Ways → Bool) (ways : T → Option Way
     ];
     none = served.none;
     alone = λ n has. let held = served.alone n has in (held.0, held.1, held.2, held.4);
+    few = served.few;
+    next = served.next;
+  }
+
+  -- it waits for a visit, which is no more than that
+  drains_uncalled : (c d : Client T) → Drains ways (called c) d → Drains ways c d
+  drains_uncalled c d drains = record {
+    serial = drains.serial;
+    held = drains.held;
+    closing = drains.closing;
+    out = drains.out;
+    unsent = drains.unsent;
+    read_since = drains.read_since;
+    none_received = drains.none_received;
+    moved = drains.moved;
+  }
+
+  uncalled : (are_turns : Type 0) (c : Client T) (o : Option (Client T)) → IsThereAfter ways used_up full failed now are_turns (called c) o → IsThereAfter ways used_up full failed now are_turns c o
+  uncalled are_turns c None (inl turned) = inl turned
+  uncalled are_turns c None (inr (d, drains, done, tried)) = inr (d, drains_uncalled c d drains, done, tried)
+  uncalled are_turns c (Some d) there = (there.0, there.1, there.2, λ open_still. timed_uncalled now c d (there.3 open_still))
+
+  -- of those who wait for a visit after the reports: they were reported, or waited before
+  its_visit : (ready : List Ready) (from mid to : Clients T) (old new : E) → IsCalled (λ key. Contains ready (Connection key)) from mid
+      → EachIsServed begins ways used_up full failed now status users may_give (λ c. c.waits_for ≡ For.Visit) mid to old new
+      → (by : List ℕ) (key : ℕ) (c : Client T) → get from.slab key ≡ Some c → IsDue ready key c
+      → ((e : Client T) → get mid.slab key ≡ Some e → e.waits_for ≡ For.Visit → IsThereAfter ways used_up full failed now (Contains by e.serial) e (get to.slab key)) → IsThereAfter ways used_up full failed now (Contains by c.serial) c (get to.slab key)
+  its_visit ready from mid to old new calls served by key c got (inl has) each = uncalled (Contains by c.serial) c (get to.slab key) (each (called c) (calls.each key c got has) refl)
+  its_visit ready from mid to old new calls served by key c got (inr waits) each = elim (calls.either key c got) [
+    | inl same ↦ each c same waits
+    | inr now ↦ uncalled (Contains by c.serial) c (get to.slab key) (each (called c) now refl)
+  ]
+
+  pub round_called : (ready : List Ready) (from mid to : Clients T) (old new : E) → IsCalled (λ key. Contains ready (Connection key)) from mid
+      → EachIsServed begins ways used_up full failed now status users may_give (λ c. c.waits_for ≡ For.Visit) mid to old new → Round (IsDue ready) from to old new
+  round_called ready from mid to old new calls served = record {
+    by = served.by;
+    visited = λ rounds boxes suits. served.visited rounds boxes (suits_called begins ways full failed _ from mid calls rounds boxes suits);
+    each = λ key c got due. its_visit ready from mid to old new calls served served.by key c got due (λ e now waits. served.each key e now waits);
+    either = λ key c got. elim (calls.either key c got) [
+      | inl same ↦ elim (waits_or_not c.waits_for) [
+        | inl waits ↦ inr (served.each key c same waits)
+        | inr not ↦ inl (served.others key c same not)
+      ]
+      | inr now ↦ inr (uncalled (Contains served.by c.serial) c (get to.slab key) (served.each key (called c) now refl))
+    ];
+    none = λ key none. served.none key (calls.none key none);
+    alone = λ n has.
+        let held = served.alone n has in
+        let was = was_called begins ways full failed _ from mid calls held.0 (get from.slab held.0) held.1 refl held.2 in
+        (held.0, was.0, was.1, same_serial begins ways full failed was.0 held.1 was.2 ∙ held.4);
+    few = λ apart. served.few (apart_called begins ways full failed _ from mid calls apart);
+    next = served.next ∙ calls.next;
   }
 
   pub round_fewer : (one is_due : ℕ → Client T → Type 0) (from to : Clients T) (old new : E) → ((key : ℕ) (c : Client T) → is_due key c → one key c) → Round one from to old new → Round is_due from to old new
@@ -172,21 +125,169 @@ module _ {T E : Type 0} (begins : Option Ways → Bool) (ways : T → Option Way
     either = round.either;
     none = round.none;
     alone = round.alone;
+    few = round.few;
+    next = round.next;
   }
 
-  pub go_none : (clients : Clients T) (s : E) → GoOn begins ways used_up full status users may_give clients clients s s
-  go_none clients s = (0, (refl, refl))
+  -- of the same reports
+  pub round_by : (seen ready : List Ready) (from to : Clients T) (old new : E) → seen ≡ ready → Round (IsDue seen) from to old new → Round (IsDue ready) from to old new
+  round_by seen ready from to old new is round = subst (λ l. Round (IsDue l) from to old new) is round
 
-  rounds_more : (n : ℕ) (from mid to : Clients T) (old at new : E) (ready : List Ready) → RoundsOn begins ways used_up full status users may_give n from mid old at → Round (IsDue ready) mid to at new
-      → RoundsOn begins ways used_up full status users may_give (suc n) from to old new
-  rounds_more zero from mid to old at new ready (is, same) round =
-      (ready, to, new, subst (λ (c : Clients T). Round (IsDue ready) c to old new) is (subst (λ (e : E). Round (IsDue ready) mid to e new) same round), (refl, refl))
-  rounds_more (suc n) from mid to old at new ready (before, first, begun, one, rest) round =
-      (before, first, begun, one, rounds_more n first mid to begun at new ready rest round)
+module _ {T E : Type 0} (begins : Option Ways → Bool) (ways : T → Option Ways) (used_up full failed : T → Type 0) (shows : Shows) (status : E → Status) (users : E → List ℕ → Option ℕ) (may_give : E → ℕ → E → Type 0) where
+  abbrev RoundAt : Instant → List Ready → Clients T → Clients T → E → E → Type 0
+  RoundAt now ready = IsRound begins ways used_up full failed now status users may_give (IsDue ready)
 
-  pub go_on : (from mid to : Clients T) (old at new : E) (ready : List Ready) → GoOn begins ways used_up full status users may_give from mid old at → Round (IsDue ready) mid to at new
-      → GoOn begins ways used_up full status users may_give from to old new
-  go_on from mid to old at new ready (n, here) round = (suc n, rounds_more n from mid to old at new ready here round)
+  rounds_more : (kept : Option (List (List Ready))) (readies : List (List Ready)) (ready : List Ready) (now : Instant) (from mid to : Clients T) (old at new : E)
+      → RoundsOn begins ways used_up full failed shows status users may_give kept readies from mid old at → IsReadAt shows (with_reports kept readies) ready now → RoundAt now ready mid to at new
+      → RoundsOn begins ways used_up full failed shows status users may_give kept (readies ++ ready ∷ []) from to old new
+  rounds_more kept [] ready now from mid to old at new (is, same) shown round = (
+    now,
+    subst (λ o. IsReadAt shows o ready now) (with_none kept) shown,
+    to,
+    new,
+    subst (λ (c : Clients T). RoundAt now ready c to old new) is (subst (λ (e : E). RoundAt now ready mid to e new) same round),
+    (refl, refl),
+  )
+  rounds_more kept (first ∷ readies) ready now from mid to old at new (then, was_shown, between, begun, one, rest) shown round = (
+    then,
+    was_shown,
+    between,
+    begun,
+    one,
+    rounds_more (with_reports kept (first ∷ [])) readies ready now between mid to begun at new rest (subst (λ o. IsReadAt shows o ready now) (sym (with_then kept (first ∷ []) readies)) shown) round,
+  )
+
+  -- a first round, in which each was due, and others since, each by the reports of a wait
+  pub record Goes (now : Instant) (from to : Clients T) (old new : E) (a b : Option (List (List Ready))) : Type 0 where
+    pub mid : Clients T
+    pub at : E
+    pub begun : IsRound begins ways used_up full failed now status users may_give (λ _ _. ⊤) from mid old at
+    pub later : List (List Ready)
+    pub rounds : RoundsOn begins ways used_up full failed shows status users may_give a later mid to at new
+    pub reported : b ≡ with_reports a later
+
+  pub goes_first : (now : Instant) (from to : Clients T) (old new : E) (a : Option (List (List Ready))) → IsRound begins ways used_up full failed now status users may_give (λ _ _. ⊤) from to old new
+      → Goes now from to old new a a
+  goes_first now from to old new a round = record {
+    mid = to;
+    at = new;
+    begun = round;
+    later = [];
+    rounds = (refl, refl);
+    reported = sym (with_none a);
+  }
+
+  pub goes_more : (now next : Instant) (ready : List Ready) (from mid to : Clients T) (old at new : E) (a b c : Option (List (List Ready))) → Goes now from mid old at a b → c ≡ with_reports b (ready ∷ [])
+      → IsReadAt shows b ready next → RoundAt next ready mid to at new → Goes now from to old new a c
+  goes_more now next ready from mid to old at new a b c goes reported shown round = record {
+    mid = goes.mid;
+    at = goes.at;
+    begun = goes.begun;
+    later = goes.later ++ ready ∷ [];
+    rounds = rounds_more a goes.later ready next goes.mid mid to goes.at at new goes.rounds (subst (λ o. IsReadAt shows o ready next) goes.reported shown) round;
+    reported = with_more a b c goes.later ready goes.reported reported;
+  }
+
+  pub go_on : (now : Instant) (from to : Clients T) (old new : E) (a b : Option (List (List Ready))) → Goes now from to old new a b
+      → GoOn begins ways used_up full failed shows status users may_give now from to old new a b
+  go_on now from to old new a b goes = record {
+    mid = goes.mid;
+    at = goes.at;
+    begun = goes.begun;
+    later = goes.later;
+    rounds = goes.rounds;
+    last = [];
+    one = omega arith;
+    reported = subst (Reports a b) (sym (append-nil goes.later)) (reports_by a b goes.later goes.reported);
+  }
+
+  -- and then a wait that failed
+  pub go_failed : (now : Instant) (ready : List Ready) (from to : Clients T) (old new : E) (a b c : Option (List (List Ready))) → Goes now from to old new a b → c ≡ with_reports b (ready ∷ [])
+      → GoOn begins ways used_up full failed shows status users may_give now from to old new a c
+  go_failed now ready from to old new a b c goes reported = record {
+    mid = goes.mid;
+    at = goes.at;
+    begun = goes.begun;
+    later = goes.later;
+    rounds = goes.rounds;
+    last = ready ∷ [];
+    one = omega arith;
+    reported = reports_by a c (goes.later ++ ready ∷ []) (with_more a b c goes.later ready goes.reported reported);
+  }
+
+-- by the same clock
+module _ {T E : Type 0} (begins : Option Ways → Bool) (ways : T → Option Ways) (used_up full failed : T → Type 0) (before shows : Shows) (status : E → Status) (users : E → List ℕ → Option ℕ) (may_give : E → ℕ → E → Type 0) where
+  pub rounds_same : (kept : Option (List (List Ready))) (readies : List (List Ready)) (from to : Clients T) (old new : E) → shows ≡ before → RoundsOn begins ways used_up full failed shows status users may_give kept readies from to old new
+      → RoundsOn begins ways used_up full failed before status users may_give kept readies from to old new
+  rounds_same kept readies from to old new same rounds = subst (λ (f : Shows). RoundsOn begins ways used_up full failed f status users may_give kept readies from to old new) same rounds
+
+  abbrev pub go_on_same : (now : Instant) (from to : Clients T) (old new : E) (a b : Option (List (List Ready))) → shows ≡ before → GoOn begins ways used_up full failed shows status users may_give now from to old new a b
+      → GoOn begins ways used_up full failed before status users may_give now from to old new a b
+  go_on_same now from to old new a b same goes = record {
+    mid = goes.mid;
+    at = goes.at;
+    begun = goes.begun;
+    later = goes.later;
+    rounds = rounds_same a goes.later goes.mid to goes.at new same goes.rounds;
+    last = goes.last;
+    one = goes.one;
+    reported = goes.reported;
+  }
+
+-- ---- who waits for a visit
+
+module _ {T : Type 0} where
+  pub called_none : (is : ℕ → Type 0) (clients : Clients T) → ((key : ℕ) → is key → ⊥) → IsCalled is clients clients
+  called_none is clients nobody = record { next = refl; parted = refl; each = λ key c got so. absurd (nobody key so); either = λ key c got. inl got; none = λ key none. none }
+
+  pub called_absent : (key : ℕ) (clients : Clients T) → get clients.slab key ≡ None → IsCalled (λ k. k ≡ key) clients clients
+  called_absent key clients none = record {
+    next = refl;
+    parted = refl;
+    each = λ k c got same. let x : None ≡ Some c = sym none ∙ ap (get clients.slab) (sym same) ∙ got in absurd cc;
+    either = λ k c got. inl got;
+    none = λ k none. none;
+  }
+
+  pub called_fewer : (one is : ℕ → Type 0) (from to : Clients T) → ((key : ℕ) → is key → one key) → IsCalled one from to → IsCalled is from to
+  called_fewer one is from to more calls = record { next = calls.next; parted = calls.parted; each = λ key c got so. calls.each key c got (more key so); either = calls.either; none = calls.none }
+
+  still_called : (is : ℕ → Type 0) (from to : Clients T) (key : ℕ) (c : Client T) → IsCalled is from to → get from.slab key ≡ Some (called c) → get to.slab key ≡ Some (called c)
+  still_called is from to key c calls got = elim (calls.either key (called c) got) [ inl same ↦ same | inr now ↦ now ]
+
+  pub called_then : (one two is : ℕ → Type 0) (from mid to : Clients T) → ((key : ℕ) → is key → one key ⊎ two key) → IsCalled one from mid → IsCalled two mid to → IsCalled is from to
+  called_then one two is from mid to split here later = record {
+    next = later.next ∙ here.next;
+    parted = later.parted ∙ here.parted;
+    each = λ key c got so. elim (split key so) [
+      | inl first ↦ still_called two mid to key c later (here.each key c got first)
+      | inr second ↦ elim (here.either key c got) [
+        | inl same ↦ later.each key c same second
+        | inr now ↦ still_called two mid to key c later now
+      ]
+    ];
+    either = λ key c got. elim (here.either key c got) [
+      | inl same ↦ later.either key c same
+      | inr now ↦ inr (still_called two mid to key c later now)
+    ];
+    none = λ key none. later.none key (here.none key none);
+  }
+
+  pub called_one : (key : ℕ) (from to : Clients T) (c d : Client T) → get from.slab key ≡ Some c → to.slab ≡ with_value from.slab key d → to.next ≡ from.next → to.parted ≡ from.parted → d ≡ called c → IsCalled (λ k. k ≡ key) from to
+  called_one key from to c d was written next parted is =
+      let updates : Updates from.slab to.slab key (Some d) = subst (λ s. Updates from.slab s key (Some d)) (sym written) (Updates-with_value from.slab key d (subst IsSome (sym was) refl)) in
+      let here : (k : ℕ) (e : Client T) → get from.slab k ≡ Some e → k ≡ key → get to.slab k ≡ Some (called e) =
+      λ k e got same. ap (get to.slab) same ∙ updates.changed ∙ ap Some is ∙ ap (λ (x : Client T). Some (called x)) (some_same c e c (sym was ∙ ap (get from.slab) (sym same) ∙ got)) in
+      record {
+        next = next;
+        parted = parted;
+        each = here;
+        either = λ k e got. elim (cases_eq k key) [ inl same ↦ inr (here k e got same) | inr differs ↦ inl (updates.others k differs ∙ got) ];
+        none = λ k none. elim (cases_eq k key) [
+          | inl same ↦ let x : None ≡ Some c = sym none ∙ ap (get from.slab) same ∙ was in absurd cc
+          | inr differs ↦ updates.others k differs ∙ none
+        ];
+      }
 
 abbrev pub key_of : Ready → ℕ
 key_of (Connection key) = key

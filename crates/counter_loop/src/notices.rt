@@ -1,6 +1,6 @@
 //! What is reported beside the replies, to who looks after the machine.
 
-use counter_api::Service;
+use crate::service::Service;
 
 /// Who is to know what happens while connections are served.
 pub trait Notices {

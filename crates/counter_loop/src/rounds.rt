@@ -1,15 +1,12 @@
-//! One round: who was reported is visited, and then who waits for another visit. The rounds by which the serving ends.
+//! One round: who was reported, or waits for another visit, is visited once. The rounds by which the serving ends.
 
-ghost use Rattle.std.specs.Prelude.{◌≡◌, List, Contains, IfOk, true};
-ghost use Rattle.counter_loop.specs.Readiness.{Reports};
-ghost use Rattle.counter_loop.specs.Rounds.{GoOn, IsDue, IsRound};
-ghost use Rattle.counter_loop.specs.declared.readiness.Ready.{Ready};
-ghost use Rattle.counter_loop.specs.declared.readiness.Ready.TheVariants as The;
+ghost use Rattle.std.specs.Prelude.{◌≡◌, Contains, true};
+ghost use Rattle.counter_loop.specs.Rounds.{GoOn, IsCalled, IsDue, IsRound};
+ghost use Rattle.counter_door.specs.declared.readiness.Ready.TheVariants as The;
 
 use crate::clients::Clients;
-use crate::door::TwoWay;
-use crate::readiness::{Readiness, Ready};
-use counter_api::Service;
+use crate::service::Service;
+use counter_door::{Readiness, Ready, TwoWay};
 use counter_limits::MAX_ENDING;
 use std::io;
 use std::time::{Duration, Instant};
@@ -41,50 +38,40 @@ pub(crate) fn wait_of(has_more: bool, most: Duration) -> Duration {
     if has_more { Duration::ZERO } else { most }
 }
 
-/// Visits the connection that is reported, if one is.
-fn visit_one<T: TwoWay + Drop, E: Service>(
-    ready: Ready,
-    clients: &mut Clients<T>,
-    service: &mut E,
-    now: Instant,
-)
-    ensures { IsRound T.begins T.ways T.used_up T.full E.status E.users E.may_give (λ key _. ready ≡ The.Connection key) clients.old clients.new service.old service.new }
+/// Has the connection that is reported wait for a visit, if one is.
+fn call_one<T: TwoWay + Drop>(ready: Ready, clients: &mut Clients<T>)
+    ensures { IsCalled (λ key. ready ≡ The.Connection key) clients.old clients.new }
 {
     let Ready::Connection(key) = ready else {
         return;
     };
-    clients.visit(key, service, now);
+    clients.call(key);
 }
 
-/// Visits the connections that are reported, one after another.
-fn visit_ready<T: TwoWay + Drop, E: Service>(
-    ready: &[Ready],
-    clients: &mut Clients<T>,
-    service: &mut E,
-    now: Instant,
-)
-    ensures { IsRound T.begins T.ways T.used_up T.full E.status E.users E.may_give (λ key _. Contains ready.now (The.Connection key)) clients.old clients.new service.old service.new }
+/// Has the connections that are reported wait for a visit.
+fn call_ready<T: TwoWay + Drop>(ready: &[Ready], clients: &mut Clients<T>)
+    ensures { IsCalled (λ key. Contains ready.now (The.Connection key)) clients.old clients.new }
 {
     for n in 0..ready.len() {
-        visit_one(ready[n], clients, service, now);
+        call_one(ready[n], clients);
     }
 }
 
-/// Visits the connections that are reported, and then those that wait for another visit.
+/// Visits the connections that are reported and those that wait for another visit, each once.
 pub(crate) fn serve_round<T: TwoWay + Drop, E: Service>(
     ready: &[Ready],
     clients: &mut Clients<T>,
     service: &mut E,
     now: Instant,
 )
-    ensures { IsRound T.begins T.ways T.used_up T.full E.status E.users E.may_give (IsDue ready.now) clients.old clients.new service.old service.new }
+    ensures { IsRound T.begins T.ways T.used_up T.full T.failed now E.status E.users E.may_give (IsDue ready.now) clients.old clients.new service.old service.new }
 {
-    visit_ready(ready, clients, service, now);
+    call_ready(ready, clients);
     clients.visit_again(service, now);
 }
 
 /// Ends the serving by order. Each connection is visited, however long that takes; then the rest of what has come whole is
-/// answered, and what is due is sent, for a second at most. Who waits at the door is not let in.
+/// answered, and what is due is sent, for a second at most. Who waits at the door is not let in. `ready` has the last reports.
 pub(crate) fn end_serving<R: Readiness, T: TwoWay + Drop, E: Service>(
     system: &mut R,
     ready: &mut Vec<Ready>,
@@ -92,8 +79,8 @@ pub(crate) fn end_serving<R: Readiness, T: TwoWay + Drop, E: Service>(
     service: &mut E,
     now: Instant,
 ) -> io::Result<()>
-    ensures rounds { GoOn T.begins T.ways T.used_up T.full E.status E.users E.may_give clients.old clients.new service.old service.new }
-    ensures reported { IfOk result (λ _. (since : List Ready) × Reports (R.reported system.old) (R.reported system.new) since) }
+    ensures { GoOn T.begins T.ways T.used_up T.full T.failed (R.shows system.old) E.status E.users E.may_give now clients.old clients.new service.old service.new
+        (R.reported system.old) (R.reported system.new) }
 {
     clients.visit_last(service, now);
     let began = system.now()?;

@@ -1,71 +1,90 @@
-//! Until when a connection may wait, and for how long nothing has moved on it.
+//! Since when a connection is waited for, and for how long nothing has moved on it.
 
-use counter_limits::{MAX_PARTING, MAX_WAIT, end_after, has_time};
+ghost use Rattle.std.specs.Prelude.{◌≡◌, ◌⊎◌, ◌<◌, IsSome, None, Some, false, true};
+ghost use Rattle.counter_loop.specs.Ends.{HasPassed, IsTooLate, batch_since};
+
+use counter_limits::{MAX_LINGERING, MAX_WAIT, end_after, has_time};
 use std::time::{Duration, Instant};
 
-/// Bytes that a client is to take: until when, and how many are left. What is added while they wait is no part of them.
+/// Bytes that a client is to take: since when, and how many are left. What is added while they wait is no part of them.
 #[derive(Clone, Copy)]
-struct Lot {
-    end: Instant,
+struct Batch {
+    since: Instant,
     left: usize,
 }
 
-/// Until when a connection may wait, by what it waits for.
+/// Since when a connection is waited for, by what it is waited for.
 #[derive(Clone, Copy)]
 pub(crate) struct Times {
     /// For the rest of a message.
     message: Option<Instant>,
-    /// For its client to take a lot of bytes.
-    lot: Option<Lot>,
+    /// For its client to take a batch of bytes.
+    batch: Option<Batch>,
     /// For its client to end, as nothing more is written.
-    parting: Option<Instant>,
-    /// Since when it waits for its client to do anything, which has no end.
+    lingering: Option<Instant>,
+    /// For its client to do anything, which has no end.
     idle: Instant,
 }
 
 impl Times {
     /// Those of a connection that begins now.
-    pub(crate) fn new(now: Instant) -> Times {
+    pub(crate) fn new(now: Instant) -> Times
+        ensures { (result.message ≡ None) × (batch_since result ≡ None) }
+    {
         Times {
             message: None,
-            lot: None,
-            parting: None,
+            batch: None,
+            lingering: None,
             idle: now,
         }
     }
 
     /// Whether nothing more is written.
-    pub(crate) fn is_parting(&self) -> bool {
-        self.parting.is_some()
+    pub(crate) fn is_lingering(&self) -> bool {
+        self.lingering.is_some()
     }
 
-    /// The parting begins.
-    pub(crate) fn part(&mut self, now: Instant) {
-        self.parting = Some(end_after(now, MAX_PARTING));
+    /// The connection lingers from now on: nothing more is written, and what comes is read and let go.
+    pub(crate) fn begin_linger(&mut self, now: Instant)
+        ensures { (self.new.message ≡ self.old.message) × (batch_since self.new ≡ batch_since self.old) }
+    {
+        self.lingering = Some(now);
     }
 
-    /// The client took some bytes, and some wait then. A lot that was taken whole gives way to what waits after it: a
-    /// client that takes a byte now and then does not keep its connection by that.
-    pub(crate) fn note_taken(&mut self, taken: usize, waiting: usize, now: Instant) {
+    /// The client took some bytes, and some wait then. After a batch that was taken whole the bytes after it are the next batch, with a
+    /// time of its own: a client that takes a byte now and then does not keep its connection by that.
+    pub(crate) fn note_taken(&mut self, taken: usize, waiting: usize, now: Instant)
+        ensures message { self.new.message ≡ self.old.message }
+        ensures none { waiting ≡ 0 → batch_since self.new ≡ None }
+        ensures some { 0 < waiting → IsSome (batch_since self.new) }
+        ensures batch { (since : Instant) → batch_since self.new ≡ Some since → (batch_since self.old ≡ Some since) ⊎ (since ≡ now) }
+    {
         if taken > 0 {
             self.idle = now;
         }
-        self.lot = match self.lot {
-            Some(lot) if lot.left > taken => Some(Lot {
-                end: lot.end,
-                left: lot.left - taken,
+        if waiting == 0 {
+            self.batch = None;
+            return;
+        }
+        self.batch = match self.batch {
+            Some(batch) if batch.left > taken => Some(Batch {
+                since: batch.since,
+                left: batch.left - taken,
             }),
-            _ if waiting > 0 => Some(Lot {
-                end: end_after(now, MAX_WAIT),
+            _ => Some(Batch {
+                since: now,
                 left: waiting,
             }),
-            _ => None,
         };
     }
 
     /// Turns were taken. A message is on its way from its first byte until it was answered. If turns were held back, its
     /// time begins anew.
-    pub(crate) fn note_turns(&mut self, has_moved: bool, holds_part: bool, now: Instant) {
+    pub(crate) fn note_turns(&mut self, has_moved: bool, holds_part: bool, now: Instant)
+        ensures batch { batch_since self.new ≡ batch_since self.old }
+        ensures message { (since : Instant) → self.new.message ≡ Some since
+            → (holds_part ≡ true) × (((has_moved ≡ false) × (self.old.message ≡ Some since)) ⊎ (since ≡ now)) }
+    {
         if has_moved {
             self.idle = now;
         }
@@ -74,14 +93,29 @@ impl Times {
         }
         if holds_part && self.message.is_none() {
             self.idle = now;
-            self.message = Some(end_after(now, MAX_WAIT));
+            self.message = Some(now);
         }
     }
 
-    /// Whether something took too long. A message is not late while bytes wait to be taken.
-    pub(crate) fn is_late(&self, now: Instant) -> bool {
-        let end = self.lot.map(|lot| lot.end).or(self.message);
-        is_over(end, now) || is_over(self.parting, now)
+    /// Whether something takes too long. A message is not late while bytes wait to be taken.
+    pub(crate) fn is_late(&self, now: Instant) -> bool
+        ensures { result ≡ true → IsTooLate now self.now }
+    {
+        if let Some(batch) = self.batch {
+            return has_passed(batch.since, MAX_WAIT, now);
+        }
+        match self.message {
+            Some(since) => has_passed(since, MAX_WAIT, now),
+            None => false,
+        }
+    }
+
+    /// Whether it lingers too long.
+    pub(crate) fn lingers_too_long(&self, now: Instant) -> bool {
+        match self.lingering {
+            Some(since) => has_passed(since, MAX_LINGERING, now),
+            None => false,
+        }
     }
 
     /// For how long nothing has moved.
@@ -90,7 +124,9 @@ impl Times {
     }
 }
 
-/// Whether this is the end of a wait, and no time is left before it.
-fn is_over(end: Option<Instant>, now: Instant) -> bool {
-    end.is_some() && !has_time(end, Some(now))
+/// Whether this many seconds have passed since then.
+fn has_passed(since: Instant, seconds: u64, now: Instant) -> bool
+    ensures { result ≡ true → HasPassed seconds since now }
+{
+    !has_time(Some(end_after(since, seconds)), Some(now))
 }

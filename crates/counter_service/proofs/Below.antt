@@ -28,7 +28,7 @@ module _ {S : Type 0} (status : S → Status) where
         moved = λ clean w held. (day.moved clean w (holds w held)).0;
         leaves = λ clean w held. day.leaves clean w (holds w held);
         whole = λ clean w held. day.whole clean w (holds w held);
-        proper = day.proper;
+        in_range = day.in_range;
         headline = day.headline;
       }
 

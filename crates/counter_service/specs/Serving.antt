@@ -71,7 +71,7 @@ module _ {S : Type 0} (status : S → Status) (users : List ℕ → Option ℕ) 
     pub replied : Tells (status opened) (status left) (IsStreamAnswered (cached_status status) users began moment old new ended result served)
 
   -- It was served through a cache; or memory was refused for that, the store is as it was, and nothing was read, done or written.
-  abbrev pub IsServedBehindCache : S → ℕ → Streams → Streams → S → Result Served ServeFault → Type 0
-  IsServedBehindCache opened moment old new left result =
+  abbrev pub IsServedWithCache : S → ℕ → Streams → Streams → S → Result Served ServeFault → Type 0
+  IsServedWithCache opened moment old new left result =
       IsServedThroughCache opened moment old new left result
       ⊎ ((result ≡ Err Memory) × (left ≡ opened) × (new ≡ old))

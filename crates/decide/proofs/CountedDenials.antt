@@ -32,5 +32,5 @@ ending_is w who user row named is = ap (λ (r : Option Standing). first_against_
 -- what was judged is carried out, and a denial answered
 pub carried_denied : (old mid new : Status) (q : Request) (judged : Result Prepared Rule) (result : Result (Result (Vec ℕ) Rule) Fault)
     → Reads old mid (Ok judged) (IsJudged (verdict q)) → IsCarriedOut mid new judged result → DeniesOrCounts old new (λ w. first w q) result
-carried_denied old mid new q (Ok p) result read carried = λ honest w holds some. none_denies (first w q) (read.told (carried.applied.answers.honest honest) w holds).allowed some
+carried_denied old mid new q (Ok p) result read carried = λ honest w holds some. none_denies (first w q) (read.stated (carried.applied.answers.honest honest) w holds).allowed some
 carried_denied old mid new q (Err rule) result read carried = λ honest w holds some. subst (CountsFault old new) (sym carried.denied) tt

@@ -23,25 +23,25 @@ use Rattle.bank_meaning.specs.Meaning.{by_books}
 use Rattle.bank_meaning.specs.Operations.{is_report, meaning_of}
 use Rattle.bank_meaning.specs.PolicyRules.{asker, first_of_policy, grounds, leave_by_policy, leave_of, policy_tests, used_by}
 use Rattle.bank_meaning.specs.declared.execution.Execution.{Execution}
-use Rattle.bank_meaning.specs.declared.leave.Leave.{Leave}
-use Rattle.bank_meaning.specs.declared.leave.Leave.TheVariants as leave
+use Rattle.bank_meaning.specs.declared.leave.Authorization.{Authorization}
+use Rattle.bank_meaning.specs.declared.leave.Authorization.TheVariants as leave
 use Rattle.op_prepare.specs.declared.prepared.Prepared.{Prepared}
 use Rattle.bank_meaning.proofs.PolicyLemmas.{books_decide, leave_given}
 use Rattle.bank_meaning.proofs.Forms.{law_of}
 
 -- where the policy authorizes it, what the books say is all that is said
-pub denied_by_books : (w : WorldLists) (x : Execution) (l : Leave) (r : Rule) → leave_by_policy (grounds w x) ≡ Ok l → (by_books (books_meaning w x)).first ≡ Some r → (execution_verdict x w).first ≡ Some r
+pub denied_by_books : (w : WorldLists) (x : Execution) (l : Authorization) (r : Rule) → leave_by_policy (grounds w x) ≡ Ok l → (by_books (books_meaning w x)).first ≡ Some r → (execution_verdict x w).first ≡ Some r
 denied_by_books w x l r leave books = books_decide w x (leave_given (grounds w x) l leave).0 ∙ books
 
 -- so a rule that denies is one of the books
-pub books_deny : (w : WorldLists) (x : Execution) (l : Leave) (by : Signature) → by ≡ signature_of x → leave_by_policy (grounds w x) ≡ Ok l → IsSome (execution_verdict x w).first
+pub books_deny : (w : WorldLists) (x : Execution) (l : Authorization) (by : Signature) → by ≡ signature_of x → leave_by_policy (grounds w x) ≡ Ok l → IsSome (execution_verdict x w).first
     → IsSome (by_books (meaning_of x.op by w)).first
 books_deny w x l by is leave some =
     let same : (execution_verdict x w).first ≡ (by_books (meaning_of x.op by w)).first = books_decide w x (leave_given (grounds w x) l leave).0 ∙ ap (λ s. (by_books (meaning_of x.op s w)).first) (sym is) in
     subst IsSome same some
 
 -- and the plan of the books, with what the authorization takes, makes the effect
-pub prepared : (w : WorldLists) (x : Execution) (l : Leave) (p : Prepared) (plan : Vec RowWrite) → leave_by_policy (grounds w x) ≡ Ok l → IsPrepared w (by_books (books_meaning w x)) p
+pub prepared : (w : WorldLists) (x : Execution) (l : Authorization) (p : Prepared) (plan : Vec RowWrite) → leave_by_policy (grounds w x) ≡ Ok l → IsPrepared w (by_books (books_meaning w x)) p
     → applied plan.items w ≡ used_by l (asker x.who) (applied p.plan.items w) → IsPrepared w (execution_verdict x w) (record { plan = plan; text = p.text })
 prepared w x l p plan leave books takes =
     let given = leave_given (grounds w x) l leave in
@@ -67,7 +67,7 @@ by_triple w x report passes =
     (ap (is_held_for (grounds w x).held (grounds w x).items) (no_amount x.op report) ∙ held_for_none (grounds w x).held (grounds w x).items ∙ held)
 
 -- where the policy authorizes it, a report of the books is one of all
-pub reported : (w : WorldLists) (x : Execution) (l : Leave) (c : Contents) → is_report x.op ≡ true → leave_by_policy (grounds w x) ≡ Ok l → IsReported w (by_books (books_meaning w x)) c
+pub reported : (w : WorldLists) (x : Execution) (l : Authorization) (c : Contents) → is_report x.op ≡ true → leave_by_policy (grounds w x) ≡ Ok l → IsReported w (by_books (books_meaning w x)) c
     → IsReported w (execution_verdict x w) c
 reported w x l c report leave books =
     let given = leave_given (grounds w x) l leave in

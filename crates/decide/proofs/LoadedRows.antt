@@ -16,9 +16,9 @@ use Rattle.decide.specs.NamedRelease.{grounds_of}
 use Rattle.bank_meaning.specs.Meaning.{by_books}
 use Rattle.bank_meaning.specs.Operations.{meaning_of}
 use Rattle.bank_meaning.specs.NamedRelease.{ReleaseGrounds}
-use Rattle.bank_meaning.specs.PolicyRules.{Grounds, asker, first_of_policy, grounds, is_identified, is_in_limit, is_released, leave_by_triples}
-use Rattle.bank_meaning.specs.declared.leave.Leave.{Leave}
-use Rattle.bank_meaning.specs.declared.leave.Leave.TheVariants as leave
+use Rattle.bank_meaning.specs.PolicyRules.{Grounds, asker, first_of_policy, grounds, is_identified, is_in_limit, is_released, authorization_by_triples}
+use Rattle.bank_meaning.specs.declared.leave.Authorization.{Authorization}
+use Rattle.bank_meaning.specs.declared.leave.Authorization.TheVariants as leave
 use Rattle.bank_terms.specs.declared.rule.Rule.TheVariants as rule
 use Rattle.bank_meaning.specs.Executions.{execution_verdict}
 use Rattle.bank_meaning.specs.declared.execution.Execution.{Execution}
@@ -51,12 +51,12 @@ same_grounds w x l loaded =
 pub denied_by_policy : (w : WorldLists) (x : Execution) (l : OperationRows) (r : Rule) → IsLoadedFor w x l → first_of_policy (loaded_grounds l.policy x) ≡ Some r → Some r ≡ (execution_verdict x w).first
 denied_by_policy w x l r loaded is = sym (policy_decides w x r (ap first_of_policy (sym (same_grounds w x l loaded)) ∙ is))
 
-pub denied_by_books : (w : WorldLists) (x : Execution) (l : OperationRows) (told : Option Rule) → IsLoadedFor w x l → first_of_policy (loaded_grounds l.policy x) ≡ None
-    → told ≡ (by_books (meaning_of x.op (signature_of x) w)).first → told ≡ (execution_verdict x w).first
-denied_by_books w x l told loaded none says = says ∙ sym (books_decide w x (ap first_of_policy (sym (same_grounds w x l loaded)) ∙ none))
+pub denied_by_books : (w : WorldLists) (x : Execution) (l : OperationRows) (stated : Option Rule) → IsLoadedFor w x l → first_of_policy (loaded_grounds l.policy x) ≡ None
+    → stated ≡ (by_books (meaning_of x.op (signature_of x) w)).first → stated ≡ (execution_verdict x w).first
+denied_by_books w x l stated loaded none says = says ∙ sym (books_decide w x (ap first_of_policy (sym (same_grounds w x l loaded)) ∙ none))
 
 first_by_tests : (known certified held enough none_named counts : Bool) (release : ℕ) (r : Rule) → known ≡ true → certified ≡ true
-    → ◌≡◌ {A = Result Leave Rule} (if not held then Err rule.NoTriple else (if enough then Ok leave.Triple else (if none_named then Err rule.Limit else Ok (leave.Release release)))) (Err r)
+    → ◌≡◌ {A = Result Authorization Rule} (if not held then Err rule.NoTriple else (if enough then Ok leave.Triple else (if none_named then Err rule.Limit else Ok (leave.Release release)))) (Err r)
     → ◌≡◌ {A = Option Rule} (cond (not known) (Some rule.Identity)
     (cond (not certified) (Some rule.NotCertified)
     (cond (not held) (Some rule.NoTriple)
@@ -69,7 +69,7 @@ first_by_tests true true true false true counts release r known cert is = cc
 first_by_tests true true true false false counts release r known cert is = absurd cc
 
 -- a rule by which triples authorize nothing is the policy's first, where the user is known and the procedure certified
-pub first_by_triples : (g : Grounds) (r : Rule) → is_identified g.standing g.session ≡ true → is_certified g.relations g.items ≡ true → leave_by_triples g.held g.items g.amount g.release ≡ Err r
+pub first_by_triples : (g : Grounds) (r : Rule) → is_identified g.standing g.session ≡ true → is_certified g.relations g.items ≡ true → authorization_by_triples g.held g.items g.amount g.release ≡ Err r
     → first_of_policy g ≡ Some r
 first_by_triples g r =
     first_by_tests (is_identified g.standing g.session) (is_certified g.relations g.items) (is_held g.held g.items) (is_in_limit g) (g.release == 0) (is_released g) g.release r

@@ -32,7 +32,7 @@ use Rattle.bank_meaning.specs.Requests.{effect, executes, first, repeated}
 use Rattle.bank_meaning.specs.Run.{denied_by, unless_repeated}
 use Rattle.bank_meaning.specs.Slips.{has_no_room, is_of_another, kept_reply, slip_grounds, slip_named, slip_of}
 use Rattle.bank_meaning.specs.declared.execution.Execution.{Execution}
-use Rattle.bank_meaning.specs.declared.leave.Leave.{Leave}
+use Rattle.bank_meaning.specs.declared.leave.Authorization.{Authorization}
 use Rattle.bank_meaning.proofs.KeptReplies.{denied, differs, repeats}
 use Rattle.bank_meaning.proofs.PolicyLemmas.{books_decide, leave_given}
 use Rattle.bank_meaning.proofs.SlipFirst.{slip_passes}
@@ -45,7 +45,7 @@ use Rattle.decide.specs.Permit.{IsReadyFor}
 use Rattle.decide.specs.Slips.{IsDenied, IsJudgedWithSlip, IsMade, IsOfFound, or_full}
 use Rattle.decide.specs.declared.slips.Judgement.{Judgement}
 use Rattle.decide.specs.declared.slips.Judgement.TheVariants as judgement
-use Rattle.decide.proofs.UsedUp.{taken_behind}
+use Rattle.decide.proofs.UsedUp.{taken_after}
 use Rattle.bank_meaning.proofs.Forms.{law_of}
 
 -- ---- the rule on counts, with the slip and without
@@ -72,18 +72,18 @@ front_with_slip =
     rule.Identity ∷ rule.Slip ∷ rule.NotCertified ∷ rule.NoTriple ∷ rule.Limit ∷ rule.Release ∷ rule.Unknown ∷ rule.Branch ∷ rule.Drawer ∷ rule.SecondPerson ∷ rule.Entry ∷ rule.Floor ∷ rule.Cash
     ∷ rule.Range ∷ rule.Taken ∷ rule.Day ∷ []
 
-abbrev behind : List Rule
-behind = rule.Officer ∷ rule.Certifier ∷ rule.Separation ∷ rule.PolicyUnknown ∷ rule.PolicyState ∷ []
+abbrev following : List Rule
+following = rule.Officer ∷ rule.Certifier ∷ rule.Separation ∷ rule.PolicyUnknown ∷ rule.PolicyState ∷ []
 
 -- no rule on commands denies an operation
-none_behind : (w : WorldLists) (o : Op) (by : Signature) → find (λ r. (meaning_of o by w).denies r) behind ≡ None
-none_behind w o by = subst (λ m. find (λ r. m.denies r) behind ≡ None) (sym ((law_of o).said by w)) ((law_of o).no_commands ((form_of o).rows by w) by)
+none_after : (w : WorldLists) (o : Op) (by : Signature) → find (λ r. (meaning_of o by w).denies r) following ≡ None
+none_after w o by = subst (λ m. find (λ r. m.denies r) following ≡ None) (sym ((law_of o).said by w)) ((law_of o).no_commands ((form_of o).rows by w) by)
 
-with_full : (full : Bool) (d : Rule → Bool) → first_by false full d ≡ or_else (find d front) (cond (full || d rule.Full) (Some rule.Full) (find d behind))
-with_full full d = find-or (by_slip false full d) front_with_slip (rule.Full ∷ behind)
+with_full : (full : Bool) (d : Rule → Bool) → first_by false full d ≡ or_else (find d front) (cond (full || d rule.Full) (Some rule.Full) (find d following))
+with_full full d = find-or (by_slip false full d) front_with_slip (rule.Full ∷ following)
 
-without_full : (d : Rule → Bool) → find d rules_of_executions ≡ or_else (find d front) (cond (d rule.Full) (Some rule.Full) (find d behind))
-without_full d = find-or d front (rule.Full ∷ behind)
+without_full : (d : Rule → Bool) → find d rules_of_executions ≡ or_else (find d front) (cond (d rule.Full) (Some rule.Full) (find d following))
+without_full d = find-or d front (rule.Full ∷ following)
 
 same_rule : (before last : Option Rule) (full own : Bool) (r : Rule) → last ≡ None → or_else before (cond own (Some rule.Full) last) ≡ Some r → or_else before (cond (full || own) (Some rule.Full) last) ≡ Some r
 same_rule (Some q) last full own r none is = is
@@ -106,8 +106,8 @@ needs_none w x zero = ap (λ (n : ℕ). not (n == 0) && (is_none (slip_grounds w
 fresh : (w : WorldLists) (x : Execution) → (slip_grounds w x).found ≡ None → repeated w (executes x) ≡ None
 fresh w x none = no_repeat (is_identified (grounds w x).standing (grounds w x).session) (slip_grounds w x) none
 
-told_fresh : (w : WorldLists) (x : Execution) → repeated w (executes x) ≡ None → denied_by w (executes x) ≡ first w (executes x)
-told_fresh w x once = ap (λ kept. unless_repeated kept (first w (executes x)) None) once
+stated_fresh : (w : WorldLists) (x : Execution) → repeated w (executes x) ≡ None → denied_by w (executes x) ≡ first w (executes x)
+stated_fresh w x once = ap (λ kept. unless_repeated kept (first w (executes x)) None) once
 
 pub denied_without : (w : WorldLists) (x : Execution) (r : Rule) → slip_named x ≡ 0 → (execution_verdict x w).first ≡ Some r → IsDenied w x r
 denied_without w x r zero is = record {
@@ -137,7 +137,7 @@ made_without w x (ready.Report c) zero is = record {
 
 -- and what denies it denies it beside its slip
 pub denies_without : (w : WorldLists) (x : Execution) → slip_named x ≡ 0 → IsSome (denied_by w (executes x)) → IsSome (execution_verdict x w).first
-denies_without w x zero some = subst IsSome (told_fresh w x (fresh w x (none_found w x zero)) ∙ first_without w x zero) some
+denies_without w x zero some = subst IsSome (stated_fresh w x (fresh w x (none_found w x zero)) ∙ first_without w x zero) some
 
 -- a report bears no slip
 slip_of_form : (o : Op) (n : ℕ) → is_report o ≡ true → (if takes_slip (procedure_of o) then n else 0) ≡ 0
@@ -161,9 +161,9 @@ judges_reports is (ready.Report c) only = only
 
 -- ---- by rows that were read alone
 
-pub rule_by_rows : (w : WorldLists) (x : Execution) (l : Leave) (by : Signature) (told : Option Rule) → by ≡ signature_of x → leave_by_policy (grounds w x) ≡ Ok l
-    → told ≡ (by_books (meaning_of x.op by w)).first → told ≡ (execution_verdict x w).first
-rule_by_rows w x l by told is leave books =
+pub rule_by_rows : (w : WorldLists) (x : Execution) (l : Authorization) (by : Signature) (stated : Option Rule) → by ≡ signature_of x → leave_by_policy (grounds w x) ≡ Ok l
+    → stated ≡ (by_books (meaning_of x.op by w)).first → stated ≡ (execution_verdict x w).first
+rule_by_rows w x l by stated is leave books =
     books ∙ ap (λ s. (by_books (meaning_of x.op s w)).first) is ∙ sym (books_decide w x (leave_given (grounds w x) l leave).0)
 
 -- ---- who asks is not known
@@ -190,13 +190,13 @@ first_same w x r other is =
     let full = has_no_room (slip_grounds w x) in
     let d = (execution_meaning w x).denies in
     ap (λ b. first_by b full d) other ∙ with_full full d
-    ∙ same_rule (find d front) (find d behind) full (d rule.Full) r (none_behind w x.op (signature_of x)) (sym (without_full d) ∙ is)
+    ∙ same_rule (find d front) (find d following) full (d rule.Full) r (none_after w x.op (signature_of x)) (sym (without_full d) ∙ is)
 
 pub first_full : (w : WorldLists) (x : Execution) → is_of_another (slip_grounds w x) ≡ false → has_no_room (slip_grounds w x) ≡ true → (execution_verdict x w).first ≡ None → first w (executes x) ≡ Some rule.Full
 first_full w x other full is =
     let d = (execution_meaning w x).denies in
     ap (λ b. first_by b (has_no_room (slip_grounds w x)) d) other ∙ ap (λ b. first_by false b d) full ∙ with_full true d
-    ∙ full_rule (find d front) (find d behind) (d rule.Full) (sym (without_full d) ∙ is)
+    ∙ full_rule (find d front) (find d following) (d rule.Full) (sym (without_full d) ∙ is)
 
 pub denied_stranger : (w : WorldLists) (x : Execution) (user : ℕ) → x.who.user ≡ Some user → is_identified (standing w.policy user) x.who.session ≡ false → IsDenied w x rule.Identity
 denied_stranger w x user named is =
@@ -222,7 +222,7 @@ module _ (w : WorldLists) (x : Execution) (user number : ℕ) (named : x.who.use
   is_named some zero = some (sym is_number ∙ zero)
 
   pub judged_found : (s : SlipRow) (j : Judgement) → number ≢ 0 → is_identified (standing w.policy user) x.who.session ≡ true → slip w user number ≡ Some s → IsOfFound s x j → IsJudgedWithSlip w x j
-  judged_found s (judgement.Denied told) some known there is = record {
+  judged_found s (judgement.Denied stated) some known there is = record {
     fresh = differs w x x s (bears known) (is_named some) (slip_is ∙ there) is.0;
     first = denied w x x s (bears known) (is_named some) (slip_is ∙ there) is.0 ∙ ap Some (sym is.1);
   }
@@ -251,12 +251,12 @@ module _ (w : WorldLists) (x : Execution) (user number : ℕ) (named : x.who.use
       ∙ ap (λ u. nat_le max_slips (slip_count u w.slips)) asker_is
 
   pub denied_full : (rule : Rule) → number ≢ 0 → slip w user number ≡ None → max_slips ≤ slip_count user w.slips → rule ≡ or_full (execution_verdict x w).first → IsDenied w x rule
-  denied_full told some none many is = record { fresh = fresh w x (not_found none); first = go (execution_verdict x w).first refl is }
+  denied_full stated some none many is = record { fresh = fresh w x (not_found none); first = go (execution_verdict x w).first refl is }
     where
       full : has_no_room (slip_grounds w x) ≡ true
       full = room_is some none ∙ le-leb max_slips (slip_count user w.slips) many
 
-      go : (f : Option Rule) → (execution_verdict x w).first ≡ f → told ≡ or_full f → first w (executes x) ≡ Some told
+      go : (f : Option Rule) → (execution_verdict x w).first ≡ f → stated ≡ or_full f → first w (executes x) ≡ Some stated
       go None at same = first_full w x (other_none none) full at ∙ ap Some (sym same)
       go (Some r) at same = first_same w x r (other_none none) at ∙ ap Some (sym same)
 
@@ -265,7 +265,7 @@ module _ (w : WorldLists) (x : Execution) (user number : ℕ) (named : x.who.use
   first_new some none room = slip_passes w x (other_none none) (room_is some none ∙ lt-leb max_slips (slip_count user w.slips) room)
 
   pub denies_new : number ≢ 0 → slip w user number ≡ None → slip_count user w.slips < max_slips → IsSome (denied_by w (executes x)) → IsSome (execution_verdict x w).first
-  denies_new some none room denied = subst IsSome (told_fresh w x (fresh w x (not_found none)) ∙ first_new some none room) denied
+  denies_new some none room denied = subst IsSome (stated_fresh w x (fresh w x (not_found none)) ∙ first_new some none room) denied
 
   -- a slip that is found, of an equal operation, is a repeat, which nothing denies
   pub found_repeats : (s : SlipRow) → number ≢ 0 → is_identified (standing w.policy user) x.who.session ≡ true → slip w user number ≡ Some s → is_same_operation s.operation (row_of x.op) ≡ true
@@ -287,7 +287,7 @@ module _ (w : WorldLists) (x : Execution) (user number : ℕ) (named : x.who.use
         allowed = first_new some none room ∙ is.allowed;
         makes = (
           ap (λ rows. applied rows w) items
-              ∙ taken_behind p.plan.items (record { user = user; number = number; operation = row_of x.op; reply = p.text.items }) policy w
+              ∙ taken_after p.plan.items (record { user = user; number = number; operation = row_of x.op; reply = p.text.items }) policy w
               ∙ ap (λ s. written (write.Slip s) (applied p.plan.items w)) row
               ∙ ap (λ v. written (write.Slip (slip_of x m.reply.bytes)) v) is.plan
               ∙ sym (ap (λ (b : Bool). if b then m.effect else written (write.Slip (slip_of x m.reply.bytes)) m.effect) (ne_eqb (slip_named x) 0 (is_named some))),

@@ -19,13 +19,13 @@ abbrev pub ChangesPolicy : Result (Result Prepared Rule) Fault → Type 0
 ChangesPolicy result = IfOk result (λ judged. IfOk judged (λ p. changes_policy p.plan.items ≡ true))
 
 -- what is returned of it
-abbrev pub told_of : Result Prepared Rule → Result (Vec ℕ) Rule
-told_of (Err rule) = Err rule
-told_of (Ok p) = Ok p.text
+abbrev pub stated_of : Result Prepared Rule → Result (Vec ℕ) Rule
+stated_of (Err rule) = Err rule
+stated_of (Ok p) = Ok p.text
 
 -- What was judged is carried out, whole or not at all, and its reply or its rule is returned.
 pub record IsCarriedOut (old new : Status) (judged : Result Prepared Rule) (result : Result (Result (Vec ℕ) Rule) Fault) : Type 0 where
   pub applied : IsApplied old new (plan_of judged) (mark_of result)
-  pub told : IfOk result (λ answer. answer ≡ told_of judged)
+  pub stated : IfOk result (λ answer. answer ≡ stated_of judged)
   -- a denial is returned without a fault
   pub denied : IfErr judged (λ rule. result ≡ Ok (Err rule))

@@ -30,9 +30,9 @@ module _ (old new : Status) (r : Request) where
 
 -- Where a command is reported done, there was a next version of the policy: none is reported done that changed nothing.
 abbrev pub FindsVersion : Status → Status → Result (Result (Vec ℕ) Rule) Fault → Type 0
-FindsVersion old new result = Tells old new (λ w. IfOk result (λ told. OnOk told (w.version < max_version)))
+FindsVersion old new result = Tells old new (λ w. IfOk result (λ stated. OnOk stated (w.version < max_version)))
 
 -- the reply is this: the bytes of its text, in JSON, or the first rule that denies
-abbrev pub IsToldInJson : Result ReplyText Rule → Result (Vec ℕ) Rule → Type 0
-IsToldInJson reply (Ok text) = reply ≡ Ok (json text.items)
-IsToldInJson reply (Err rule) = reply ≡ Err rule
+abbrev pub IsAnsweredInJson : Result ReplyText Rule → Result (Vec ℕ) Rule → Type 0
+IsAnsweredInJson reply (Ok text) = reply ≡ Ok (json text.items)
+IsAnsweredInJson reply (Err rule) = reply ≡ Err rule

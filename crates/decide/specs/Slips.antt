@@ -38,7 +38,7 @@ IsJudgedWithSlip w x (judgement.Ready r) = IsMade w x r
 
 -- what a slip that is found makes of it
 abbrev pub IsOfFound : SlipRow → Execution → Judgement → Type 0
-IsOfFound s x (judgement.Denied told) = (is_same_operation s.operation (row_of x.op) ≡ false) × (told ≡ rule.Slip)
+IsOfFound s x (judgement.Denied stated) = (is_same_operation s.operation (row_of x.op) ≡ false) × (stated ≡ rule.Slip)
 IsOfFound s x (judgement.Repeated text) = (is_same_operation s.operation (row_of x.op) ≡ true) × (text.items ≡ s.reply)
 IsOfFound s x (judgement.Ready r) = ⊥
 
@@ -58,13 +58,13 @@ IsNewTo w x row user number = HasStanding w x row × (slip w user number ≡ Non
 
 -- What reading comes to of such a World, where there may be nothing to read; it counts the fault that it answers.
 pub record MayReadRow {A : Type 0} (old new : Status) (IsSuch : WorldLists → Type 0) (result : Result A Fault) (says : WorldLists → A → Type 0) : Type 0 where
-  pub told : Tells old new (λ w. IsSuch w → IfOk result (says w))
+  pub stated : Tells old new (λ w. IsSuch w → IfOk result (says w))
   pub kept : Keeps old new (mark_of result)
   pub counted : new.fault_count ≡ count_after (mark_of result) old.fault_count
 
 -- the same of what may find want of memory beside the store
 pub record MayReadOf {A : Type 0} (old new : Status) (IsSuch : WorldLists → Type 0) (result : Result A Fault) (says : WorldLists → A → Type 0) : Type 0 where
-  pub told : Tells old new (λ w. IsSuch w → IfOk result (says w))
+  pub stated : Tells old new (λ w. IsSuch w → IfOk result (says w))
   pub kept : Keeps old new (mark_of result)
 
 -- where the World is such a one, and a rule denies it, a fault is one that the store counted

@@ -15,10 +15,10 @@ ghost use Rattle.bank_meaning.specs.Requests.{executes, first};
 use crate::commands::rule_against_asked;
 use crate::listing::rule_against_listing;
 use crate::named_release::{NamedRelease, is_released, is_same_operation};
-use crate::policy_rules::{is_certified_for, is_identified, leave_by_triples};
+use crate::policy_rules::{authorization_by_triples, is_certified_for, is_identified};
 use crate::sessions::{rule_against_ending, rule_against_opening};
 use bank_books::Slip;
-use bank_meaning::{Asked, Execution, Leave, Request};
+use bank_meaning::{Asked, Authorization, Execution, Request};
 use bank_policy::{CertifiedRow, HeldRow, Standing};
 use bank_terms::{MAX_SLIPS, Rule};
 use certify::CommandRows;
@@ -164,7 +164,7 @@ fn first_of_policy(rows: &PolicyRows, execution: &Execution) -> Option<Rule>
     if !is_certified_for(&rows.relations, items.as_slice()) {
         return Some(Rule::NotCertified);
     }
-    match leave_by_triples(
+    match authorization_by_triples(
         &rows.held,
         items.as_slice(),
         amount(&execution.op),
@@ -172,8 +172,8 @@ fn first_of_policy(rows: &PolicyRows, execution: &Execution) -> Option<Rule>
         execution.moment,
     ) {
         Err(rule) => Some(rule),
-        Ok(Leave::Triple) => None,
-        Ok(Leave::Release(_)) => {
+        Ok(Authorization::Triple) => None,
+        Ok(Authorization::Release(_)) => {
             if is_released(&rows.released, execution) {
                 None
             } else {

@@ -11,7 +11,7 @@ ghost use Rattle.op_prepare.specs.Judged.{DeniesOrCounts, IsJudged};
 ghost use Rattle.policy_commands.specs.Ranges.{IsPolicyOp};
 ghost use Rattle.decide.specs.Judged.{ChangesPolicy};
 ghost use Rattle.decide.specs.Loaded.{IsLoadedForCommand};
-ghost use Rattle.decide.specs.OneRequest.{FindsVersion, IsToldInJson, LeavesBoth, Moves, Replies, Settles};
+ghost use Rattle.decide.specs.OneRequest.{FindsVersion, IsAnsweredInJson, LeavesBoth, Moves, Replies, Settles};
 
 use crate::by_rows::CommandGrounds;
 use crate::carried_out::carry_out_prepared;
@@ -40,7 +40,7 @@ pub fn decide_policy<S: Store>(
     requires proper { IsPolicyOp command }
     ensures answers { Answers (S.status bank.old.store) (S.status bank.new.store) (mark_of result) }
     ensures moved { Moves (S.status bank.old.store) (S.status bank.new.store) (commands command who) (mark_of result) }
-    ensures replied { Replies (S.status bank.old.store) (S.status bank.new.store) (commands command who) IsToldInJson result }
+    ensures replied { Replies (S.status bank.old.store) (S.status bank.new.store) (commands command who) IsAnsweredInJson result }
     ensures crash { LeavesBoth (S.status bank.old.store) (S.status bank.new.store) (commands command who) }
     ensures whole { StaysWhole (S.status bank.old.store) (S.status bank.new.store) }
     ensures settled { Settles (S.status bank.old.store) (S.status bank.new.store) (commands command who) (mark_of result) }

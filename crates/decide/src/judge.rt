@@ -11,9 +11,9 @@ ghost use Rattle.bank_meaning.specs.PolicyRules.{used_by};
 ghost use Rattle.bank_meaning.specs.Executions.{execution_verdict};
 ghost use Rattle.decide.specs.Slips.{DeniesWhereOrCounts, HasStanding, MayReadOf};
 
-use crate::policy_rules::policy_leave;
+use crate::policy_rules::policy_authorization;
 use bank_books::{Plan, ReleaseKey, RowWrite};
-use bank_meaning::{Execution, Leave};
+use bank_meaning::{Authorization, Execution};
 use bank_policy::Standing;
 use bank_terms::Rule;
 use money::Fault;
@@ -24,7 +24,7 @@ use store_rows::{BookReads, PolicyReads, ReportReads};
 /// What carries an operation out beside its slip, or the first rule that denies it, where the row of the user who
 /// asks says what is passed. The rules of the policy come
 /// first: where one of them denies, no row is read that only the books ask about; of a release that is
-/// named the day of its branch is. A report uses up no release, as it comes to no amount.
+/// named the day of its branch is. A report uses up no release, as it has no amount.
 pub(crate) fn prepare<S: PolicyReads + BookReads + ReportReads>(
     alloc: Global,
     store: &mut S,
@@ -38,7 +38,7 @@ pub(crate) fn prepare<S: PolicyReads + BookReads + ReportReads>(
     ensures denied { DeniesWhereOrCounts (S.status store.old) (S.status store.new) (λ w. HasStanding w execution.now asker) (λ w. (execution_verdict execution.now w).first) result }
     ensures policy { LeavesPolicyReady result }
 {
-    match policy_leave(alloc, store, asker, execution)? {
+    match policy_authorization(alloc, store, asker, execution)? {
         Err(rule) => Ok(Err(rule)),
         Ok(leave) => {
             let by = execution.signature();
@@ -55,13 +55,13 @@ pub(crate) fn prepare<S: PolicyReads + BookReads + ReportReads>(
 }
 
 /// A plan of the books with what its authorization takes: a release is used up with it.
-fn with_leave(mut plan: Plan, leave: Leave, user: u32) -> Result<Plan, AllocError>
+fn with_leave(mut plan: Plan, leave: Authorization, user: u32) -> Result<Plan, AllocError>
     ensures used { IfOk result (λ p. changes_policy plan.items ≡ false → (w : WorldLists) → applied p.items w ≡ used_by leave user (applied plan.items w)) }
     ensures policy { IfOk result (λ p. changes_policy p.items ≡ changes_policy plan.items) }
 {
     match leave {
-        Leave::Triple => {}
-        Leave::Release(number) => plan.push(RowWrite::Used(ReleaseKey { user, number }))?,
+        Authorization::Triple => {}
+        Authorization::Release(number) => plan.push(RowWrite::Used(ReleaseKey { user, number }))?,
     }
     Ok(plan)
 }

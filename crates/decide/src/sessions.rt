@@ -7,7 +7,7 @@ ghost use Rattle.store_rows.specs.Status.{Answers, Reads, Refuses, StaysWhole, m
 ghost use Rattle.bank_meaning.specs.Requests.{ends_session, first, opens_session, verdict};
 ghost use Rattle.bank_meaning.specs.Sessions.{ending_data, ending_text, first_against_ending, first_against_opening, latest, opening_data, opening_text};
 ghost use Rattle.op_prepare.specs.Judged.{DeniesOrCounts, IsJudged};
-ghost use Rattle.decide.specs.OneRequest.{IsToldInJson, LeavesBoth, Moves, Replies, Settles};
+ghost use Rattle.decide.specs.OneRequest.{IsAnsweredInJson, LeavesBoth, Moves, Replies, Settles};
 
 use crate::carried_out::carry_out_prepared;
 use crate::policy_rules::is_identified;
@@ -33,7 +33,7 @@ pub fn begin<S: Store>(
 ) -> Result<Result<Vec<u8>, Rule>, Fault>
     ensures answers { Answers (S.status bank.old.store) (S.status bank.new.store) (mark_of result) }
     ensures moved { Moves (S.status bank.old.store) (S.status bank.new.store) (opens_session user) (mark_of result) }
-    ensures replied { Replies (S.status bank.old.store) (S.status bank.new.store) (opens_session user) IsToldInJson result }
+    ensures replied { Replies (S.status bank.old.store) (S.status bank.new.store) (opens_session user) IsAnsweredInJson result }
     ensures crash { LeavesBoth (S.status bank.old.store) (S.status bank.new.store) (opens_session user) }
     ensures whole { StaysWhole (S.status bank.old.store) (S.status bank.new.store) }
     ensures settled { Settles (S.status bank.old.store) (S.status bank.new.store) (opens_session user) (mark_of result) }
@@ -59,7 +59,7 @@ pub fn end<S: Store>(
 ) -> Result<Result<Vec<u8>, Rule>, Fault>
     ensures answers { Answers (S.status bank.old.store) (S.status bank.new.store) (mark_of result) }
     ensures moved { Moves (S.status bank.old.store) (S.status bank.new.store) (ends_session who) (mark_of result) }
-    ensures replied { Replies (S.status bank.old.store) (S.status bank.new.store) (ends_session who) IsToldInJson result }
+    ensures replied { Replies (S.status bank.old.store) (S.status bank.new.store) (ends_session who) IsAnsweredInJson result }
     ensures crash { LeavesBoth (S.status bank.old.store) (S.status bank.new.store) (ends_session who) }
     ensures whole { StaysWhole (S.status bank.old.store) (S.status bank.new.store) }
     ensures settled { Settles (S.status bank.old.store) (S.status bank.new.store) (ends_session who) (mark_of result) }

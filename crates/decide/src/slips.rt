@@ -18,7 +18,7 @@ ghost use Rattle.decide.specs.Slips.{DeniesWhereOrCounts, HasStanding, IsJudgedW
 
 use crate::judge::prepare;
 use crate::named_release::is_same_operation;
-use crate::policy_rules::{is_identified, policy_leave};
+use crate::policy_rules::{is_identified, policy_authorization};
 use bank_books::{Plan, RowWrite, Slip};
 use bank_meaning::Execution;
 use bank_policy::Standing;
@@ -146,7 +146,7 @@ fn rule_with_no_room<S: PolicyReads + BookReads>(
     requires takes { takes_slip (procedure_of execution.now.op) ≡ true }
     ensures { MayReadRow (S.status store.old) (S.status store.new) (λ w. HasStanding w execution.now asker) result (λ w rule. rule ≡ or_full (execution_verdict execution.now w).first) }
 {
-    match policy_leave(alloc, store, asker, execution)? {
+    match policy_authorization(alloc, store, asker, execution)? {
         Err(rule) => Ok(rule),
         Ok(_) => {
             let rows = load_book_rows(alloc, store, &execution.op)?;

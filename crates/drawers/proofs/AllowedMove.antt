@@ -37,7 +37,7 @@ use Rattle.rule_tests.proofs.FoundRows.{cash_from, for_found}
 use Rattle.drawers.specs.Laws.{MoveCashKeepsBooks}
 use Rattle.drawers.specs.MoveCash.{first_against_move, from_source, into_target, is_in_range, is_missing, is_unknown, is_vault, may_move, move_changes, move_effect, move_rows, place_covers, source_line, target_line, teller_at}
 use Rattle.drawers.specs.declared.move_cash.MoveRows.{MoveRows}
-use Rattle.drawers.proofs.PlacedLines.{ArePlaced, AreCarried, HasRoomAt, carried_keep_books, not_below, opposite, still_cash, two_behind}
+use Rattle.drawers.proofs.PlacedLines.{ArePlaced, AreCarried, HasRoomAt, carried_keep_books, not_below, opposite, still_cash, two_after}
 
 -- ---- what the rules say
 
@@ -247,10 +247,10 @@ are_placed w move by there allowed books signed =
 is_carried : (w : WorldLists) (move : MoveCash) (by : Signature) (there : IsThere w move) → IsAllowed (rows_of w move (Some there.home)) move by → Books w → IsSigned w by → IsMoveCash move
     → AreCarried w move.branch (given w move there by) (taken w move there by)
 is_carried w move by there allowed books signed ranges =
-    let behind = ap (λ k. line_count k w.lines) (found_row branch_key move.branch w.branches there.home there.home_is).1 in
+    let following = ap (λ k. line_count k w.lines) (found_row branch_key move.branch w.branches there.home there.home_is).1 in
     record {
       placed = are_placed w move by there allowed books signed;
-      numbered = (ap (λ n. n + 1) behind, (ap (λ n. n + 2) behind ∙ two_behind (line_count move.branch w.lines), tt));
+      numbered = (ap (λ n. n + 1) following, (ap (λ n. n + 2) following ∙ two_after (line_count move.branch w.lines), tt));
       two_places = ranges.two_places;
       opposite = opposite (pos move.amount);
       first_carries = (refl, refl);

@@ -36,7 +36,7 @@ use Rattle.drawers.specs.DrawerRows.{drawer_rows, is_unknown}
 use Rattle.drawers.specs.Laws.{DrawerOffKeepsBooks}
 use Rattle.drawers.specs.declared.drawer_rows.DrawerRows.{DrawerRows}
 use Rattle.drawers.proofs.DrawerThere.{AreThere, are_there, book_of, no_vault, rows_are, rows_of, teller_is}
-use Rattle.drawers.proofs.PlacedLines.{ArePlaced, next_lines, still_cash, two_behind}
+use Rattle.drawers.proofs.PlacedLines.{ArePlaced, next_lines, still_cash, two_after}
 
 -- ---- what the rules say
 
@@ -91,8 +91,8 @@ effect_is w form there by = ap (λ changes. applied changes w) (changes_are w fo
 
 -- ---- its lines may come next
 
-three_behind : (n : ℕ) → n + 3 ≡ ((n + 1) + 1) + 1
-three_behind n = omega arith
+three_after : (n : ℕ) → n + 3 ≡ ((n + 1) + 1) + 1
+three_after n = omega arith
 
 are_placed : (w : WorldLists) (form : DrawerOff) (by : Signature) (there : IsThere w form) → IsAllowed (rows_of w (Some there.holder) (Some there.home)) form by → Books w → IsSigned w by
     → ArePlaced w form.branch (lines_of w form there by)
@@ -194,9 +194,9 @@ drawer_off_keeps_books w form by books signed ranges none =
     let found = is_allowed (drawer_rows w form.teller form.branch) form by none in
     let there = are_there w form.teller form.branch found.known in
     let allowed = subst (λ rows. IsAllowed rows form by) (rows_are w form.teller form.branch there) found in
-    let behind = ap (λ k. line_count k w.lines) (found_row branch_key form.branch w.branches there.home there.home_is).1 in
+    let following = ap (λ k. line_count k w.lines) (found_row branch_key form.branch w.branches there.home there.home_is).1 in
     subst Books (sym (effect_is w form there by))
     (lines_of_branch_keep_books w form.branch (lines_of w form there by)
     (next_lines w form.branch (lines_of w form there by) (are_placed w form by there allowed books signed)
-    (ap (λ n. n + 1) behind, (ap (λ n. n + 2) behind ∙ two_behind (line_count form.branch w.lines), (ap (λ n. n + 3) behind ∙ three_behind (line_count form.branch w.lines), tt))))
+    (ap (λ n. n + 1) following, (ap (λ n. n + 2) following ∙ two_after (line_count form.branch w.lines), (ap (λ n. n + 3) following ∙ three_after (line_count form.branch w.lines), tt))))
     (refl, (refl, (refl, tt))) (no_gap form.counted) (has_room w form by there allowed ((books_parts w).0 books).1 ranges) books)

@@ -32,7 +32,7 @@ use Rattle.drawers.specs.DrawerOn.{drawer_on_changes, drawer_on_effect, first_ag
 use Rattle.drawers.specs.DrawerRows.{drawer_rows, is_unknown}
 use Rattle.drawers.specs.declared.drawer_rows.DrawerRows.{DrawerRows}
 use Rattle.drawers.proofs.DrawerThere.{AreThere, are_there, book_of, no_vault, rows_are, rows_of, teller_is}
-use Rattle.drawers.proofs.PlacedLines.{AreCarried, carried_keep_books, not_below, opposite, still_cash, two_behind}
+use Rattle.drawers.proofs.PlacedLines.{AreCarried, carried_keep_books, not_below, opposite, still_cash, two_after}
 
 -- ---- what the rules say
 
@@ -116,7 +116,7 @@ is_carried w form by there allowed books signed number ranges =
       );
       numbered = (
         ap (λ k. line_count k w.lines + 1) branch.1,
-        (ap (λ k. line_count k w.lines + 2) branch.1 ∙ two_behind (line_count form.branch w.lines), tt),
+        (ap (λ k. line_count k w.lines + 2) branch.1 ∙ two_after (line_count form.branch w.lines), tt),
       );
       two_places = λ same. drawer (sym same);
       opposite = opposite (pos form.cash);

@@ -39,30 +39,30 @@ pub record IsPlaced (w : WorldLists) (branch : ℕ) (l : CashLine) : Type 0 wher
 abbrev pub ArePlaced : WorldLists → ℕ → List CashLine → Type 0
 ArePlaced w branch lines = AllByRecursion (IsPlaced w branch) lines
 
--- numbered one by one, after so many
-abbrev pub AreNumberedBehind : ℕ → List CashLine → Type 0
-AreNumberedBehind n [] = ⊤
-AreNumberedBehind n (l ∷ lines) = (l.number ≡ n + 1) × AreNumberedBehind (n + 1) lines
+-- numbered one by one, from n + 1 on
+abbrev pub AreNumberedAfter : ℕ → List CashLine → Type 0
+AreNumberedAfter n [] = ⊤
+AreNumberedAfter n (l ∷ lines) = (l.number ≡ n + 1) × AreNumberedAfter (n + 1) lines
 
 -- with the lines that are there by then
-next_behind : (w : WorldLists) (book : List CashLine) (branch : ℕ) (lines : List CashLine) → ArePlaced w branch lines → AreNumberedBehind (line_count branch book) lines
+next_after : (w : WorldLists) (book : List CashLine) (branch : ℕ) (lines : List CashLine) → ArePlaced w branch lines → AreNumberedAfter (line_count branch book) lines
     → AreNextLines (record w { lines = book }) lines
-next_behind w book branch [] placed numbered = tt
-next_behind w book branch (l ∷ lines) placed numbered = (
+next_after w book branch [] placed numbered = tt
+next_after w book branch (l ∷ lines) placed numbered = (
   record {
     sound = placed.0.sound;
     number = subst (λ k. l.number ≡ line_count k book + 1) (sym placed.0.of_branch) numbered.0;
     holder = placed.0.holder;
   },
-  next_behind w (add_row line_key l book) branch lines placed.1
-      (subst (λ n. AreNumberedBehind n lines) (sym (count_named line_key (λ x. x.branch == branch) l book (eq-eqb l.branch branch placed.0.of_branch))) numbered.1),
+  next_after w (add_row line_key l book) branch lines placed.1
+      (subst (λ n. AreNumberedAfter n lines) (sym (count_named line_key (λ x. x.branch == branch) l book (eq-eqb l.branch branch placed.0.of_branch))) numbered.1),
 )
 
-pub next_lines : (w : WorldLists) (branch : ℕ) (lines : List CashLine) → ArePlaced w branch lines → AreNumberedBehind (line_count branch w.lines) lines → AreNextLines w lines
-next_lines w branch lines placed numbered = next_behind w w.lines branch lines placed numbered
+pub next_lines : (w : WorldLists) (branch : ℕ) (lines : List CashLine) → ArePlaced w branch lines → AreNumberedAfter (line_count branch w.lines) lines → AreNextLines w lines
+next_lines w branch lines placed numbered = next_after w w.lines branch lines placed numbered
 
-pub two_behind : (n : ℕ) → n + 2 ≡ (n + 1) + 1
-two_behind n = omega arith
+pub two_after : (n : ℕ) → n + 2 ≡ (n + 1) + 1
+two_after n = omega arith
 
 -- ---- room
 
@@ -109,7 +109,7 @@ IsCarrying l = (is_cash_entry l.form ≡ false) × (is_difference l.form ≡ fal
 -- the first takes from one place of the branch what the second gives another, and both have room for it
 pub record AreCarried (w : WorldLists) (branch : ℕ) (first second : CashLine) : Type 0 where
   pub placed : ArePlaced w branch (first ∷ second ∷ [])
-  pub numbered : AreNumberedBehind (line_count branch w.lines) (first ∷ second ∷ [])
+  pub numbered : AreNumberedAfter (line_count branch w.lines) (first ∷ second ∷ [])
   pub two_places : first.place ≢ second.place
   pub opposite : first.amount +ℤ second.amount ≡ pos 0
   pub first_carries : IsCarrying first

@@ -173,7 +173,7 @@ fn place_cash(place: u32, row: Option<TellerRecord>, vault: Option<i128>) -> Opt
     }
 }
 
-/// Whether the cash of a place with so many cents more is not below zero.
+/// Whether the cash of a place and `added` cents are together not below zero.
 fn place_covers(place: u32, row: Option<TellerRecord>, vault: Option<i128>, added: i64) -> bool
     ensures { result ≡ place_covers place row vault added }
 {

@@ -11,9 +11,9 @@ IsFailed fault errors_old errors_new status =
     IsWritten errors_old errors_new (line (text_of fault)) × (status ≡ 3)
 
 -- The end of serving was reported: where that went well standard error got nothing, and the status is 0.
-abbrev pub IsTold : {A : Type 0} → Result A ServeFault → Stream → Stream → ℕ → Type 0
-IsTold (Ok done) errors_old errors_new status = (errors_new ≡ errors_old) × (status ≡ 0)
-IsTold (Err fault) errors_old errors_new status = IsFailed fault errors_old errors_new status
+abbrev pub IsReported : {A : Type 0} → Result A ServeFault → Stream → Stream → ℕ → Type 0
+IsReported (Ok done) errors_old errors_new status = (errors_new ≡ errors_old) × (status ≡ 0)
+IsReported (Err fault) errors_old errors_new status = IsFailed fault errors_old errors_new status
 
 -- A text was shown whole, and the status is 0. Or a call of standard output failed, and that was reported: then a
 -- beginning of the text was shown, which is all of it where the flush after it failed.

@@ -2,7 +2,7 @@
 
 ghost use Rattle.std.specs.Prelude.{◌≡◌};
 ghost use Rattle.money.specs.Counted.{Sends};
-ghost use Rattle.exit_lines.specs.Ends.{IsFailed, IsShown, IsTold};
+ghost use Rattle.exit_lines.specs.Ends.{IsFailed, IsShown, IsReported};
 ghost use Rattle.exit_lines.specs.Lines.{line, text_of};
 ghost use Rattle.exit_lines.specs.Streams.{IsWritten, stream_at};
 
@@ -68,8 +68,8 @@ pub fn line_of(fault: ServeFault) -> &'static str
 
 /// Reports how serving a stream ended, and returns the status for it: `DONE` exactly where that went well, otherwise
 /// `FAILED` after the line of the fault.
-pub fn tell_end<E: Write>(errors: &mut Tallied<E>, served: Result<Served, ServeFault>) -> u8
-    ensures { IsTold served (stream_at E.contents errors.old) (stream_at E.contents errors.new) result }
+pub fn report_end<E: Write>(errors: &mut Tallied<E>, served: Result<Served, ServeFault>) -> u8
+    ensures { IsReported served (stream_at E.contents errors.old) (stream_at E.contents errors.new) result }
 {
     match served {
         Ok(_) => DONE,

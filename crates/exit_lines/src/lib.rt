@@ -1,4 +1,4 @@
-//! How a program that serves a stream ends. `tell_end` returns the status 0 exactly where serving went
+//! How a program that serves a stream ends. `report_end` returns the status 0 exactly where serving went
 //! well, and otherwise 3 after the line of the fault on standard error, which is `line_of`. `show` does so
 //! for a text on standard output. A part of a line is missing only where a call of that writer failed. The
 //! status of refused arguments is in `cli_words`.
@@ -6,5 +6,5 @@
 
 mod ends;
 
-pub use ends::{DONE, FAILED, fail, line_of, show, tell, tell_end};
+pub use ends::{DONE, FAILED, fail, line_of, report_end, show, tell};
 pub use http_messages::{ServeFault, Served};

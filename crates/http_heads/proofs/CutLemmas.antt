@@ -27,18 +27,18 @@ abbrev pub AreWhole : List ℕ → Type 0
 AreWhole lines = (lines ≡ []) ⊎ EndsLine lines
 
 -- what follows the first bytes of whole lines
-abbrev pub Behind : List ℕ → List ℕ → List ℕ → List ℕ → Type 0
-Behind front lines rest more = (behind : List ℕ) × (lines ≡ front ++ behind) × (rest ≡ behind ++ more) × AreWhole behind
+abbrev pub Following : List ℕ → List ℕ → List ℕ → List ℕ → Type 0
+Following front lines rest more = (following : List ℕ) × (lines ≡ front ++ following) × (rest ≡ following ++ more) × AreWhole following
 
-whole_behind : (x b : List ℕ) → EndsLine (x ++ b) → AreWhole b
-whole_behind x [] e = inl refl
-whole_behind x (c ∷ cs) e =
+whole_after : (x b : List ℕ) → EndsLine (x ++ b) → AreWhole b
+whole_after x [] e = inl refl
+whole_after x (c ∷ cs) e =
     let within : length x ≤ length e.0 = omega (arith, ap length e.1, length-append x (c ∷ cs), length-append e.0 (10 ∷ [])) in
     inr (drop (length x) e.0, sym (drop-append_seam x (c ∷ cs)) ∙ ap (drop (length x)) e.1 ∙ drop-append-le (length x) e.0 (10 ∷ []) within)
 
 -- whole lines at the front of a line and what follows it are none, or begin with that line
 pub cut_line : (line rest lines more : List ℕ) → IsLine line → line ++ rest ≡ lines ++ more → AreWhole lines
-    → (lines ≡ []) ⊎ Behind line lines rest more
+    → (lines ≡ []) ⊎ Following line lines rest more
 cut_line line rest lines more one is (inl none) = inl none
 cut_line line rest lines more one is (inr e) =
     let some : 0 < length lines = omega (arith, ap length e.1, length-append e.0 (10 ∷ [])) in
@@ -58,7 +58,7 @@ cut_line line rest lines more one is (inr e) =
             drop n lines,
             split,
             sym (drop-append_seam line rest) ∙ ap (drop n) is ∙ drop-append-le n lines more long,
-            whole_behind line (drop n lines) (subst EndsLine split e),
+            whole_after line (drop n lines) (subst EndsLine split e),
           )
     ]
 
@@ -122,7 +122,7 @@ print_lines h rest =
 
 -- whole lines at the front of line ends and what follows them
 pub cut_blank : (ends : List LineEnd) (rest lines more : List ℕ) → print_blank ends ++ rest ≡ lines ++ more → AreWhole lines
-    → IsBlank lines ⊎ Behind (print_blank ends) lines rest more
+    → IsBlank lines ⊎ Following (print_blank ends) lines rest more
 cut_blank [] rest lines more is whole = inr (lines, refl, is, whole)
 cut_blank (e ∷ ends) rest lines more is whole =
     elim (cut_line (print_end e) (print_blank ends ++ rest) lines more (end_line e) (sym (append_assoc (print_end e) (print_blank ends) rest) ∙ is) whole) [
@@ -153,9 +153,9 @@ cut_before fields last rest lines more all is none = record {
   follows = is ∙ ap (λ l. l ++ more) none;
 }
 
-cut_behind : (f : Field) (last : LineEnd) (rest lines behind more : List ℕ) → IsField f → lines ≡ print_field f ++ behind
-    → FieldsCut last rest behind more → FieldsCut last rest lines more
-cut_behind f last rest lines behind more is split cut = record {
+cut_after : (f : Field) (last : LineEnd) (rest lines following more : List ℕ) → IsField f → lines ≡ print_field f ++ following
+    → FieldsCut last rest following more → FieldsCut last rest lines more
+cut_after f last rest lines following more is split cut = record {
   fields = f ∷ cut.fields;
   later = cut.later;
   are = All-cons IsField f cut.fields is cut.are;
@@ -167,7 +167,7 @@ cut_behind f last rest lines behind more is split cut = record {
 -- whole lines at the front of a section are fields, or have its last line
 pub cut_fields : (fields : List Field) (last : LineEnd) (rest lines more : List ℕ) → All IsField fields
     → flat_map print_field fields ++ (print_end last ++ rest) ≡ lines ++ more → AreWhole lines
-    → FieldsCut last rest lines more ⊎ ((behind : List ℕ) × (lines ≡ flat_map print_field fields ++ (print_end last ++ behind)))
+    → FieldsCut last rest lines more ⊎ ((following : List ℕ) × (lines ≡ flat_map print_field fields ++ (print_end last ++ following)))
 cut_fields [] last rest lines more all is whole =
     elim (cut_line (print_end last) rest lines more (end_line last) is whole) [
       | inl none ↦ inl (cut_before [] last rest lines more all is none)
@@ -178,7 +178,7 @@ cut_fields (f ∷ fields) last rest lines more all is whole =
     (sym (append_assoc (print_field f) (flat_map print_field fields) (print_end last ++ rest)) ∙ is) whole) [
       | inl none ↦ inl (cut_before (f ∷ fields) last rest lines more all is none)
       | inr first ↦ elim (cut_fields fields last rest first.0 more (All-tail IsField f fields all) first.2 first.3) [
-        | inl cut ↦ inl (cut_behind f last rest lines first.0 more (All-head IsField f fields all) first.1 cut)
+        | inl cut ↦ inl (cut_after f last rest lines first.0 more (All-head IsField f fields all) first.1 cut)
         | inr end ↦ inr (end.0, first.1 ∙ ap (λ l. print_field f ++ l) end.1 ∙ sym (append_assoc (print_field f) (flat_map print_field fields) (print_end last ++ end.0)))
       ]
     ]
@@ -187,7 +187,7 @@ cut_fields (f ∷ fields) last rest lines more all is whole =
 pub data HeadCut (h : RequestHead) (lines more : List ℕ) : Type 0 where
   in_blank : IsBlank lines → HeadCut h lines more
   in_fields : (front : List ℕ) → lines ≡ print_blank h.blank ++ (start_line h ++ front) → FieldsCut h.last [] front more → HeadCut h lines more
-  past_last : (behind : List ℕ) → lines ≡ print_request h ++ behind → HeadCut h lines more
+  past_last : (following : List ℕ) → lines ≡ print_request h ++ following → HeadCut h lines more
 
 pub cut_head : (h : RequestHead) (lines more : List ℕ) → ReadsRequest (lines ++ more) h [] → AreWhole lines → HeadCut h lines more
 cut_head h lines more (is, reads) whole =

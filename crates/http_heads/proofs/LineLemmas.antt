@@ -35,7 +35,7 @@ pub fields_len : (fs : List Field) → All IsField fs → 3 * length fs ≤ leng
 fields_len [] a = omega arith
 fields_len (f ∷ fs) a = omega (arith, fields_len fs (All-tail IsField f fs a), field_len f (All-head IsField f fs a), length-append (print_field f) (flat_map print_field fs))
 
--- so a head of so many bytes has at most a third as many fields
+-- so a head has at most a third as many fields as bytes
 pub head_len : (h : RequestHead) → IsRequestHead h → 3 * length h.fields < length (print_request h)
 unfolding print_request
 head_len h i =

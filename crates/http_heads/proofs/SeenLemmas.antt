@@ -87,7 +87,7 @@ first_lines lines whole (none, inr (more, h, reads)) =
     elim (cut_head h lines more reads whole) [
       | in_blank ends ↦ inl ends
       | in_fields front split cut ↦ inr (lacks_last h cut.fields lines reads.0 cut.are (split ∙ ap (λ l. print_blank h.blank ++ (start_line h ++ l)) cut.lines_are))
-      | past_last behind split ↦ absurd (none h behind (reads.0, split))
+      | past_last following split ↦ absurd (none h following (reads.0, split))
     ]
 
 -- lines that lack a last line are line ends, a start line and fields
@@ -153,37 +153,37 @@ not_both lines (h, reads) ends =
     (ends_wait (lines ++ print_end h.last) (more_ends lines (print_end h.last) ends (h.last ∷ [], sym (append-nil (print_end h.last))))).0 h [] reads
 
 -- what follows lines that lack a last line, in longer ones that lack it too, is a section but for its last line
-lacks_behind : (front lines : List ℕ) → LacksLastLine front → LacksLastLine (front ++ lines)
+lacks_after : (front lines : List ℕ) → LacksLastLine front → LacksLastLine (front ++ lines)
     → (fields : List Field) × (last : LineEnd) × ReadsSection (lines ++ print_end last) fields last []
-lacks_behind front lines lacking (h, reads) =
+lacks_after front lines lacking (h, reads) =
     let again : ReadsRequest (front ++ (lines ++ print_end h.last)) h [] = (reads.0, sym (append_assoc front lines (print_end h.last)) ∙ reads.1) in
     elim (cut_head h front (lines ++ print_end h.last) again (first_whole true front lacking)) [
       | in_blank ends ↦ absurd (not_both front lacking ends)
       | in_fields fields split cut ↦ (cut.later, h.last, (cut.all, sym cut.follows ∙ sym (append_assoc (flat_map print_field cut.later) (print_end h.last) [])))
-      | past_last behind split ↦ absurd ((lacking_wait front lacking).0 h behind (reads.0, split))
+      | past_last following split ↦ absurd ((lacking_wait front lacking).0 h following (reads.0, split))
     ]
 
 -- so it has no section
 pub no_section : (front lines : List ℕ) (fields : List Field) (last : LineEnd) (rest : List ℕ) → LacksLastLine front → LacksLastLine (front ++ lines)
     → ReadsSection lines fields last rest → ⊥
 no_section front lines fields last rest lacking all reads =
-    let behind = lacks_behind front lines lacking all in
-    let more = print_end behind.1 in
-    let same = section_unique (lines ++ more) fields behind.0 last behind.1 (rest ++ more) [] (ReadsSection-append lines fields last rest more reads) behind.2 in
-    absurd (omega (arith, ap length same.2, length-append rest more, end_some behind.1))
+    let following = lacks_after front lines lacking all in
+    let more = print_end following.1 in
+    let same = section_unique (lines ++ more) fields following.0 last following.1 (rest ++ more) [] (ReadsSection-append lines fields last rest more reads) following.2 in
+    absurd (omega (arith, ap length same.2, length-append rest more, end_some following.1))
 
 -- and there is room for its fields
 pub has_room : (front lines : List ℕ) (room : ℕ) → LacksLastLine front → LacksLastLine (front ++ lines) → length lines ≤ max_head_len
     → max_fields ≤ room → SectionOverflows room lines → ⊥
 has_room front lines room lacking all short enough over =
-    let behind = lacks_behind front lines lacking all in
-    let more = print_end behind.1 in
-    let few = fields_len behind.0 behind.2.0 in
-    omega (arith, few, over more behind.0 behind.1 [] behind.2, ap length behind.2.1, length-append lines more, length-append (flat_map print_field behind.0 ++ more) [], length-append (flat_map print_field behind.0) more)
+    let following = lacks_after front lines lacking all in
+    let more = print_end following.1 in
+    let few = fields_len following.0 following.2.0 in
+    omega (arith, few, over more following.0 following.1 [] following.2, ap length following.2.1, length-append lines more, length-append (flat_map print_field following.0 ++ more) [], length-append (flat_map print_field following.0) more)
 
 -- what follows line ends, among line ends alone, is line ends
-pub ends_behind : (front lines : List ℕ) → IsBlank front → IsBlank (front ++ lines) → IsBlank lines
-ends_behind front lines (ends, is) all = go ends (subst (λ l. IsBlank (l ++ lines)) is all)
+pub ends_following : (front lines : List ℕ) → IsBlank front → IsBlank (front ++ lines) → IsBlank lines
+ends_following front lines (ends, is) all = go ends (subst (λ l. IsBlank (l ++ lines)) is all)
   where
     go : (ends : List LineEnd) → IsBlank (print_blank ends ++ lines) → IsBlank lines
     go [] all = all
@@ -192,7 +192,7 @@ ends_behind front lines (ends, is) all = go ends (subst (λ l. IsBlank (l ++ lin
 -- those that were seen, or those through a later line feed, are whole lines
 pub whole_through : (bytes : List ℕ) (seen : Seen) (m n : ℕ) → IsSeen bytes seen → seen.lines ≤ n → n ≤ m → n ≤ length bytes
     → (seen.lines < n → get_or (take m bytes) (n - 1) 0 ≡ 10) → AreWhole (take n bytes)
-whole_through bytes seen m n is behind within fits line =
+whole_through bytes seen m n is following within fits line =
     elim (cases_lt seen.lines n) [
       | inl new ↦ lines_end bytes m n within fits (λ _. line new)
       | inr old ↦

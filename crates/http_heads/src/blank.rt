@@ -19,8 +19,8 @@ pub fn are_line_ends(bytes: &[u8]) -> bool
     ensures { IsTrue result ↔ ((ends : List LineEnd) × (bytes.now ≡ print_blank ends)) }
 {
     let mut rest = bytes;
-    while let Some(behind) = strip_line_end(rest) {
-        rest = behind;
+    while let Some(following) = strip_line_end(rest) {
+        rest = following;
     }
     rest.is_empty()
 }

@@ -48,7 +48,7 @@ fn judge_lines(lines: &[u8], headers: &mut [HeaderSpan]) -> Judged
 
 /// Judges the first bytes of a stream at the last line feed of the first `MAX_HEAD_LEN`, and writes where the fields of
 /// a head are to the front of `headers`. A head, and lines that begin none, stay so whatever bytes follow, and
-/// exclude each other; so this is what a judgement at each line feed comes to.
+/// exclude each other; so this is the outcome of a judgement at each line feed.
 ///
 /// So many of the bytes were judged before, and how many are now is kept. Where only further fields came, or further line
 /// ends before the start line, these alone are looked at: so a head takes time by its length, in however many pieces it

@@ -77,8 +77,8 @@ most_messages bytes ms [] r q a b x y none = omega arith
 most_messages bytes [] (n ∷ ns) r q a b x y none =
     absurd (holds_no_message r n (flat_map print_message ns ++ q) none (All-head IsMessage n ns b) (begins_head r n ns q (All-head IsMessage n ns b) (sym x ∙ y)))
 most_messages bytes (m ∷ ms) (n ∷ ns) r q a b x y none =
-    let behind = (same_first bytes m n ms ns r q (All-head IsMessage m ms a) (All-head IsMessage n ns b) x y).1 in
-    let later = most_messages (flat_map print_message ms ++ r) ms ns r q (All-tail IsMessage m ms a) (All-tail IsMessage n ns b) refl behind none in
+    let following = (same_first bytes m n ms ns r q (All-head IsMessage m ms a) (All-head IsMessage n ns b) x y).1 in
+    let later = most_messages (flat_map print_message ms ++ r) ms ns r q (All-tail IsMessage m ms a) (All-tail IsMessage n ns b) refl following none in
     omega (arith, later)
 
 pub one_end : (bytes : List ℕ) (ms ns : List WholeMessage) (rest other : List ℕ) → Splits bytes ms rest → Splits bytes ns other → HoldsNoMessage rest → length ns ≤ length ms

@@ -12,12 +12,12 @@ use Rattle.http_messages.specs.declared.serving.ServeFault.TheVariants.{Read, Wr
 use Rattle.http_messages.specs.Exit.{Point, StaysOpen, StopsWithin, AnswersAll, Reads, ReadsLast, StopsInReply, IsExit}
 use Rattle.http_messages.specs.Parts.{MessageParts}
 use Rattle.http_messages.specs.Run.{Runs, EndsSo, IsServed}
-use Rattle.http_messages.specs.Turn.{At, OnlyReads, Handles}
+use Rattle.http_messages.specs.Turn.{StoreAndClock, OnlyReads, Handles}
 use Rattle.http_messages.specs.Whole.{WholeMessage, message_parts, Splits}
 use Rattle.http_messages.proofs.RunLemmas.{splits_on, splits_more, answers_more}
 
 -- what a caller sees of a server, once its writer has this
-abbrev pub seen : {S : Type 0} → At S → Option (List ℕ) → Point S
+abbrev pub seen : {S : Type 0} → StoreAndClock S → Option (List ℕ) → Point S
 seen a written = record { left = a.left; written = written; engine = a.engine }
 
 -- where no byte was read there is no rest
@@ -110,10 +110,10 @@ module _ {S : Type 0} (answers : S → MessageParts → List ℕ → S → Type 
 
 module _ {S : Type 0} (answers stops breaks : S → MessageParts → List ℕ → S → Type 0) where
   -- the bytes of a run whose server held nothing at its start
-  run_splits : (old mid : At S) (ms : List WholeMessage) (out : List ℕ) → old.held ≡ [] → (run : Runs answers stops breaks old mid ms out) → Splits run.more ms mid.held
+  run_splits : (old mid : StoreAndClock S) (ms : List WholeMessage) (out : List ℕ) → old.held ≡ [] → (run : Runs answers stops breaks old mid ms out) → Splits run.more ms mid.held
   run_splits old mid ms out none run = subst (λ l. Splits (l ++ run.more) ms mid.held) none run.splits
 
-  reads_run : (old mid : At S) (w : Option (List ℕ)) (ms : List WholeMessage) (out : List ℕ) → old.held ≡ [] → Runs answers stops breaks old mid ms out
+  reads_run : (old mid : StoreAndClock S) (w : Option (List ℕ)) (ms : List WholeMessage) (out : List ℕ) → old.held ≡ [] → Runs answers stops breaks old mid ms out
       → Reads answers (seen old old.written) (seen mid w) ms mid.held out
   reads_run old mid w ms out none run = record {
     bytes = run.more;
@@ -124,7 +124,7 @@ module _ {S : Type 0} (answers stops breaks : S → MessageParts → List ℕ �
   }
 
   -- more bytes were read after it
-  reads_on : (old mid new : At S) (w : Option (List ℕ)) (ms : List WholeMessage) (out : List ℕ) → old.held ≡ [] → Runs answers stops breaks old mid ms out → OnlyReads mid new
+  reads_on : (old mid new : StoreAndClock S) (w : Option (List ℕ)) (ms : List WholeMessage) (out : List ℕ) → old.held ≡ [] → Runs answers stops breaks old mid ms out → OnlyReads mid new
       → Reads answers (seen old old.written) (seen new w) ms new.held out
   reads_on old mid new w ms out none run x = record {
     bytes = run.more ++ x.more;
@@ -135,7 +135,7 @@ module _ {S : Type 0} (answers stops breaks : S → MessageParts → List ℕ �
   }
 
   -- one message more was answered
-  reads_last : (way : S → MessageParts → List ℕ → S → Type 0) (old mid new : At S) (w : Option (List ℕ)) (ms : List WholeMessage) (out rest reply : List ℕ) → old.held ≡ []
+  reads_last : (way : S → MessageParts → List ℕ → S → Type 0) (old mid new : StoreAndClock S) (w : Option (List ℕ)) (ms : List WholeMessage) (out rest reply : List ℕ) → old.held ≡ []
       → Runs answers stops breaks old mid ms out → (a : Handles way mid new rest reply) → ReadsLast answers way (seen old old.written) (seen new w) ms a.message rest out reply
   reads_last way old mid new w ms out rest reply none run a = record {
     bytes = run.more ++ a.more;
@@ -158,7 +158,7 @@ module _ {S : Type 0} (answers stops breaks : S → MessageParts → List ℕ �
     bounded = x.bounded;
   }
 
-  ended_ok : (most : ℕ) (old mid new : At S) (w : Option (List ℕ)) (ms : List WholeMessage) (out : List ℕ) (s : Served) → old.held ≡ [] → Runs answers stops breaks old mid ms out
+  ended_ok : (most : ℕ) (old mid new : StoreAndClock S) (w : Option (List ℕ)) (ms : List WholeMessage) (out : List ℕ) (s : Served) → old.held ≡ [] → Runs answers stops breaks old mid ms out
       → EndsSo answers stops breaks most (length ms) mid new (Ok s) → Keeps new.written w → IsExit answers stops breaks most (seen old old.written) (seen new w) (Ok s)
   ended_ok most old mid new w ms out s none run (inl (full, count, same)) keeps =
       let nothing : most ≡ 0 → mid.held ≡ [] = λ zero. rest_none _ _ _ (run_splits old mid ms out none run).whole (run.idle (full ∙ zero)) in
@@ -196,7 +196,7 @@ module _ {S : Type 0} (answers stops breaks : S → MessageParts → List ℕ �
     inl (count, inr (inl (fewer, run.lasting, part, blank, end)), kept_all old.written mid.written new.written w out run.written kept keeps),
   )
 
-  ended_err : (most : ℕ) (old mid new : At S) (w : Option (List ℕ)) (ms : List WholeMessage) (out : List ℕ) (f : ServeFault) → old.held ≡ [] → Runs answers stops breaks old mid ms out
+  ended_err : (most : ℕ) (old mid new : StoreAndClock S) (w : Option (List ℕ)) (ms : List WholeMessage) (out : List ℕ) (f : ServeFault) → old.held ≡ [] → Runs answers stops breaks old mid ms out
       → EndsSo answers stops breaks most (length ms) mid new (Err f) → Keeps new.written w → IsExit answers stops breaks most (seen old old.written) (seen new w) (Err f)
   ended_err most old mid new w ms out Read none run (fewer, (x, part, kept, clean)) keeps = (
     ms,
@@ -255,7 +255,7 @@ module _ {S : Type 0} (answers stops breaks : S → MessageParts → List ℕ �
   )
   ended_err most old mid new w ms out Memory none run (fewer, never) keeps = absurd never
 
-  ended_unflushed : (most : ℕ) (old mid new : At S) (w : Option (List ℕ)) (ms : List WholeMessage) (out : List ℕ) (s : Served) → old.held ≡ [] → Runs answers stops breaks old mid ms out
+  ended_unflushed : (most : ℕ) (old mid new : StoreAndClock S) (w : Option (List ℕ)) (ms : List WholeMessage) (out : List ℕ) (s : Served) → old.held ≡ [] → Runs answers stops breaks old mid ms out
       → EndsSo answers stops breaks most (length ms) mid new (Ok s) → new.unflushed ≡ true → Keeps new.written w
       → IsExit answers stops breaks most (seen old old.written) (seen new w) (Err Write)
   ended_unflushed most old mid new w ms out s none run (inl (full, count, same)) dirty keeps =
@@ -289,13 +289,13 @@ module _ {S : Type 0} (answers stops breaks : S → MessageParts → List ℕ �
       let e = sym clean ∙ dirty in absurd cc
 
   -- the run ended, and its writer kept what it had
-  pub exit_ended : (most : ℕ) (old new : At S) (w : Option (List ℕ)) (r : Result Served ServeFault) → old.held ≡ [] → IsServed answers stops breaks most old new r → Keeps new.written w
+  pub exit_ended : (most : ℕ) (old new : StoreAndClock S) (w : Option (List ℕ)) (r : Result Served ServeFault) → old.held ≡ [] → IsServed answers stops breaks most old new r → Keeps new.written w
       → IsExit answers stops breaks most (seen old old.written) (seen new w) r
   exit_ended most old new w (Ok s) none (mid, ms, out, run, ends) keeps = ended_ok most old mid new w ms out s none run ends keeps
   exit_ended most old new w (Err f) none (mid, ms, out, run, ends) keeps = ended_err most old mid new w ms out f none run ends keeps
 
   -- the run ended well, and what was written was flushed, or that failed
-  pub exit_flushed : (most : ℕ) (old new : At S) (w : Option (List ℕ)) (s : Served) (r : Result Served ServeFault) → old.held ≡ []
+  pub exit_flushed : (most : ℕ) (old new : StoreAndClock S) (w : Option (List ℕ)) (s : Served) (r : Result Served ServeFault) → old.held ≡ []
       → IsServed answers stops breaks most old new (Ok s)
       → IfOk r (λ t. t ≡ s) → IfErr r (λ f. (f ≡ Write) × (new.unflushed ≡ true)) → Keeps new.written w
       → IsExit answers stops breaks most (seen old old.written) (seen new w) r

@@ -26,8 +26,8 @@ pub same_first : (bytes : List ℕ) (m n : WholeMessage) (ms ns : List WholeMess
     → (m ≡ n) × (flat_map print_message ms ++ r ≡ flat_map print_message ns ++ q)
 same_first bytes m n ms ns r q is-m is-n x y =
     let head = request_unique bytes m.head n.head _ _ (first_head bytes m ms r is-m x) (first_head bytes n ns q is-n y) in
-    let behind = same_front m.body n.body _ _ (is-m.body ∙ ap (λ h. body_len (parts_of h)) head.0 ∙ sym is-n.body) head.1 in
-    ((λ i. record { head = head.0 i; body = behind.0 i }), behind.1)
+    let following = same_front m.body n.body _ _ (is-m.body ∙ ap (λ h. body_len (parts_of h)) head.0 ∙ sym is-n.body) head.1 in
+    ((λ i. record { head = head.0 i; body = following.0 i }), following.1)
 
 same_messages : (bytes : List ℕ) (ms ns : List WholeMessage) (r q : List ℕ) → length ms ≡ length ns
     → All IsMessage ms → All IsMessage ns → bytes ≡ flat_map print_message ms ++ r → bytes ≡ flat_map print_message ns ++ q → (ms ≡ ns) × (r ≡ q)

@@ -7,7 +7,7 @@ use Rattle.http_messages.specs.Exit.{StaysOpen, AnswersAll}
 use Rattle.http_messages.specs.Parts.{MessageParts}
 use Rattle.http_messages.specs.Inbox.{max_message_len}
 use Rattle.http_messages.specs.Whole.{WholeMessage, print_message, message_parts, IsMessage, Splits}
-use Rattle.http_messages.specs.Turn.{At, Answers}
+use Rattle.http_messages.specs.Turn.{StoreAndClock, Answers}
 use Rattle.http_messages.specs.Run.{Runs}
 
 -- more bytes were read
@@ -41,7 +41,7 @@ module _ {S : Type 0} (answers : S → MessageParts → List ℕ → S → Type 
       (next, first, later ++ reply, is, ap (λ l. l ++ reply) whole ∙ append_assoc first later reply, answers_more next mid new ms m later reply rest one)
 
 module _ {S : Type 0} (answers stops breaks : S → MessageParts → List ℕ → S → Type 0) where
-  pub run_none : (old : At S) → length old.held ≤ max_message_len → old.unflushed ≡ false → Runs answers stops breaks old old [] []
+  pub run_none : (old : StoreAndClock S) → length old.held ≤ max_message_len → old.unflushed ≡ false → Runs answers stops breaks old old [] []
   run_none old within clean = record {
     more = [];
     taken = Consumes-nil old.left;
@@ -54,7 +54,7 @@ module _ {S : Type 0} (answers stops breaks : S → MessageParts → List ℕ �
     idle = λ _. refl;
   }
 
-  pub run_more : (old mid new : At S) (ms : List WholeMessage) (out : List ℕ) → Runs answers stops breaks old mid ms out → (x : Answers answers stops breaks false mid new)
+  pub run_more : (old mid new : StoreAndClock S) (ms : List WholeMessage) (out : List ℕ) → Runs answers stops breaks old mid ms out → (x : Answers answers stops breaks false mid new)
       → Runs answers stops breaks old new (ms ++ x.1.message ∷ []) (out ++ x.0)
   run_more old mid new ms out run (reply, a, stays, wrote) =
       let m = a.message in record {

@@ -62,7 +62,7 @@ HasFault bytes Fault.BadHead = IsMalformed bytes
 HasFault bytes Fault.HeadTooLong = IsTooLong bytes
 HasFault bytes _ = ⊥
 
--- a head that has no fault begins them, and the message has so many bytes with its head
+-- a head that has no fault begins them, and the message has `whole` bytes with its head
 pub record AwaitsBody (bytes : List ℕ) (whole : ℕ) : Type 0 where
   pub headers : List HeaderSpan
   pub spans : RequestSpans

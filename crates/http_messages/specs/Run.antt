@@ -8,12 +8,12 @@ use Rattle.http_messages.specs.Exit.{StaysOpen, AnswersAll}
 use Rattle.http_messages.specs.Parts.{MessageParts}
 use Rattle.http_messages.specs.Inbox.{max_message_len}
 use Rattle.http_messages.specs.Whole.{WholeMessage, Splits}
-use Rattle.http_messages.specs.Turn.{At, IsTurn}
+use Rattle.http_messages.specs.Turn.{StoreAndClock, IsTurn}
 
 module _ {S : Type 0} (answers stops breaks : S → MessageParts → List ℕ → S → Type 0) where
   -- the bytes read are these messages and what is held, none of them ends the connection, and they were answered by out. Without
   -- a message nothing is unflushed, and nothing was read
-  pub record Runs (old new : At S) (ms : List WholeMessage) (out : List ℕ) : Type 0 where
+  pub record Runs (old new : StoreAndClock S) (ms : List WholeMessage) (out : List ℕ) : Type 0 where
     pub more : List ℕ
     pub taken : Consumes old.left new.left more
     pub splits : Splits (old.held ++ more) ms new.held
@@ -25,7 +25,7 @@ module _ {S : Type 0} (answers stops breaks : S → MessageParts → List ℕ �
     pub idle : length ms ≡ 0 → more ≡ []
 
   -- how a run of k messages ended
-  abbrev pub EndsSo : ℕ → ℕ → At S → At S → Result Served ServeFault → Type 0
+  abbrev pub EndsSo : ℕ → ℕ → StoreAndClock S → StoreAndClock S → Result Served ServeFault → Type 0
   EndsSo most k mid new (Ok s) =
       ((k ≡ most) × (s.messages ≡ k) × (new ≡ mid))
       ⊎ ((k < most)
@@ -33,6 +33,6 @@ module _ {S : Type 0} (answers stops breaks : S → MessageParts → List ℕ �
   EndsSo most k mid new (Err fault) = (k < most) × IsTurn answers stops breaks mid new (Err fault)
 
   -- messages that don't end the connection, and then its end
-  abbrev pub IsServed : ℕ → At S → At S → Result Served ServeFault → Type 0
+  abbrev pub IsServed : ℕ → StoreAndClock S → StoreAndClock S → Result Served ServeFault → Type 0
   IsServed most old new r =
-      (mid : At S) × (ms : List WholeMessage) × (out : List ℕ) × Runs old mid ms out × EndsSo most (length ms) mid new r
+      (mid : StoreAndClock S) × (ms : List WholeMessage) × (out : List ℕ) × Runs old mid ms out × EndsSo most (length ms) mid new r

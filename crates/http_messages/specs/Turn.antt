@@ -19,7 +19,7 @@ use Rattle.http_messages.specs.Whole.{WholeMessage, print_message, message_parts
 
 -- a server, as a contract sees it: what its reader has left, what it holds, what its writer has, whether something of that
 -- was written since the last flush, and its engine
-pub record At (S : Type 0) : Type 0 where
+pub record StoreAndClock (S : Type 0) : Type 0 where
   pub left : Option (List ℕ)
   pub held : List ℕ
   pub written : Option (List ℕ)
@@ -27,7 +27,7 @@ pub record At (S : Type 0) : Type 0 where
   pub engine : S
 
 -- bytes were read, and nothing else was done
-pub record OnlyReads {S : Type 0} (old new : At S) : Type 0 where
+pub record OnlyReads {S : Type 0} (old new : StoreAndClock S) : Type 0 where
   pub more : List ℕ
   pub taken : Consumes old.left new.left more
   pub held : new.held ≡ old.held ++ more
@@ -35,7 +35,7 @@ pub record OnlyReads {S : Type 0} (old new : At S) : Type 0 where
   pub bounded : length new.held ≤ max_message_len
 
 -- bytes were read, and the first message of what was held then was handed to the engine, with the rest after it
-pub record Handles {S : Type 0} (answers : S → MessageParts → List ℕ → S → Type 0) (old new : At S) (rest reply : List ℕ) : Type 0 where
+pub record Handles {S : Type 0} (answers : S → MessageParts → List ℕ → S → Type 0) (old new : StoreAndClock S) (rest reply : List ℕ) : Type 0 where
   pub more : List ℕ
   pub message : WholeMessage
   pub taken : Consumes old.left new.left more
@@ -51,13 +51,13 @@ fault_of Answer.Report = Report
 
 module _ {S : Type 0} (answers stops breaks : S → MessageParts → List ℕ → S → Type 0) where
   -- a message was answered, and its reply closes or not
-  abbrev pub Answers : Bool → At S → At S → Type 0
+  abbrev pub Answers : Bool → StoreAndClock S → StoreAndClock S → Type 0
   Answers ends old new =
       (reply : List ℕ) × (a : Handles answers old new new.held reply) × (closes (parts_of a.message.head) ≡ ends)
       × Appends old.written new.written reply
 
   -- how a turn ended: Waiting, where the input ended between two messages. A failed write cut off a reply, or was a flush of what stood there before. After a read nothing is unflushed
-  abbrev pub IsTurn : At S → At S → Result Step ServeFault → Type 0
+  abbrev pub IsTurn : StoreAndClock S → StoreAndClock S → Result Step ServeFault → Type 0
   IsTurn old new (Ok Answered) = Answers false old new
   IsTurn old new (Ok Closed) =
       Answers true old new

@@ -36,7 +36,7 @@ not_above u a b c is low apart high = grind (arith, nat_tests)
 is_group : (u a : ℕ) → a ≡ u → (a == u) ≡ true
 is_group u a is = grind (arith, nat_tests)
 
--- where each row is of another group than the row so many places after it, no group has more rows than that
+-- where each row is of another group than the row n places after it, no group has more than n rows
 pub small_from_apart : {X : Type 0} (group : X → ℕ) (xs : List X) (most u : ℕ) → IsNonDecreasingBy group xs
     → ((i j : ℕ) (d : X) → j ≡ i + most → j < length xs → group (get_or xs i d) ≢ group (get_or xs j d)) → count_by (λ x. group x == u) xs ≤ most
 small_from_apart group [] most u order apart = omega arith
@@ -69,7 +69,7 @@ many_between group (x ∷ xs) (suc a) (suc b) u d order before below first last 
     go true is rest = omega (arith, rest, counted (λ y. group y == u) x xs is)
     go false is rest = omega (arith, rest, passed_over (λ y. group y == u) x xs is)
 
--- each row with the row so many places after it
+-- each row with the row n places after it
 abbrev pub Pairs : {X : Type 0} → List X → ℕ → List (X × X)
 Pairs xs most = zip xs (drop most xs)
 

@@ -19,5 +19,5 @@ pub fn has_small_groups<T: Grouped>(rows: &[T], most: usize) -> bool
 {
     rows.iter()
         .zip(rows.iter().skip(most))
-        .all(|(row, behind)| row.group() != behind.group())
+        .all(|(row, following)| row.group() != following.group())
 }

@@ -47,5 +47,5 @@ name_is_text bs is = IsUtf8-from_ascii bs (all_printable bs (and_parts (nat_lt 0
 -- and is read as it is
 pub name_read : {E : Type 0} (X : E → Type 0) (bs : List ℕ) (r : Result (Bor (List ℕ)) E) (o : Option (Bor (List ℕ))) → MatchResult r (λ s. (s.now ≡ bs) × IsUtf8 bs) (λ e. ¬ (IsUtf8 bs) × X e) → o ≡ result_ok r → kind.is_name bs ≡ true
     → option_map (λ s. s.now) o ≡ cond (kind.is_name bs) (Some bs) None
-name_read X bs (Ok s) o told is good = ap (option_map (λ s. s.now)) is ∙ ap Some told.0 ∙ sym (ap (λ b. cond b (Some bs) None) good)
-name_read X bs (Err e) o told is good = absurd (told.0 (name_is_text bs good))
+name_read X bs (Ok s) o stated is good = ap (option_map (λ s. s.now)) is ∙ ap Some stated.0 ∙ sym (ap (λ b. cond b (Some bs) None) good)
+name_read X bs (Err e) o stated is good = absurd (stated.0 (name_is_text bs good))

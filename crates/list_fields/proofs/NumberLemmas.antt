@@ -77,13 +77,13 @@ none_parsed most bs (Err x) h start small e = go (is_number bs) refl (nat_le (di
 
 value_parsed : {E : Type 0} (bs : List ℕ) (r : Result ℕ E) → ParsesUnsigned 64 10 bs r → true ≡ starts bs → (n : ℕ) → Some n ≡ result_ok r → (all_ascii_digits bs ≡ true) × (n ≡ digits_value 10 bs)
 value_parsed {E} bs (Ok m) h start n e =
-    let told = parse_plain own {E = E} 64 bs (Ok m) h (no_plus bs (sym start)) in
-    (told.0.0, ap (λ o. unwrap_or o 0) e ∙ told.1)
+    let stated = parse_plain own {E = E} 64 bs (Ok m) h (no_plus bs (sym start)) in
+    (stated.0.0, ap (λ o. unwrap_or o 0) e ∙ stated.1)
 value_parsed {E} bs (Err x) h start n e = absurd (false≢true (sym (ap is_some e)))
 
 -- and one that parses to a number
 pub parsed : {E : Type 0} (most : ℕ) (bs : List ℕ) (r : Result ℕ E) → ParsesUnsigned 64 10 bs r → true ≡ starts bs → (n : ℕ) → Some n ≡ result_ok r
     → cond (nat_le n most) (Some n) None ≡ number_up_to most bs
 parsed most bs r h start n e =
-    let told = value_parsed bs r h start n e in
-    ap (λ m. cond (nat_le m most) (Some m) None) told.1 ∙ sym (ap (λ b. cond (b && nat_le (digits_value 10 bs) most) (Some (digits_value 10 bs)) None) (number_from bs (sym start) told.0))
+    let stated = value_parsed bs r h start n e in
+    ap (λ m. cond (nat_le m most) (Some m) None) stated.1 ∙ sym (ap (λ b. cond (b && nat_le (digits_value 10 bs) most) (Some (digits_value 10 bs)) None) (number_from bs (sym start) stated.0))

@@ -17,13 +17,13 @@ at_first row rest badge b is = ap (λ t. option_map (λ r. r.1) (cond t (Some (r
     go false = refl
 
 -- so far no badge is this one
-abbrev pub IsBehind : List Badge → List ℕ → ℕ → Type 0
-IsBehind badges badge i = user_of (rows_of badges) badge ≡ user_of (rows_of (drop i badges)) badge
+abbrev pub IsAfter : List Badge → List ℕ → ℕ → Type 0
+IsAfter badges badge i = user_of (rows_of badges) badge ≡ user_of (rows_of (drop i badges)) badge
 
-pub behind-more : (badges : List Badge) (badge : List ℕ) (i : ℕ) (row : Badge) → i < length badges → row ≡ get_or badges i row → bytes_eq row.badge.items badge ≡ false → IsBehind badges badge i → IsBehind badges badge (i + 1)
-behind-more badges badge i row below is other before = before ∙ ap (λ l. user_of (rows_of l) badge) (rest_of badges i row below is) ∙ at_first row (drop (i + 1) badges) badge false other
+pub following-more : (badges : List Badge) (badge : List ℕ) (i : ℕ) (row : Badge) → i < length badges → row ≡ get_or badges i row → bytes_eq row.badge.items badge ≡ false → IsAfter badges badge i → IsAfter badges badge (i + 1)
+following-more badges badge i row below is other before = before ∙ ap (λ l. user_of (rows_of l) badge) (rest_of badges i row below is) ∙ at_first row (drop (i + 1) badges) badge false other
 
-pub found-here : (badges : List Badge) (badge : List ℕ) (i : ℕ) (row : Badge) → i < length badges → row ≡ get_or badges i row → bytes_eq row.badge.items badge ≡ true → IsBehind badges badge i → Some row.user ≡ user_of (rows_of badges) badge
+pub found-here : (badges : List Badge) (badge : List ℕ) (i : ℕ) (row : Badge) → i < length badges → row ≡ get_or badges i row → bytes_eq row.badge.items badge ≡ true → IsAfter badges badge i → Some row.user ≡ user_of (rows_of badges) badge
 found-here badges badge i row below is same before = sym (before ∙ ap (λ l. user_of (rows_of l) badge) (rest_of badges i row below is) ∙ at_first row (drop (i + 1) badges) badge true same)
 
 none_left : (badges : List Badge) (i : ℕ) → length badges ≤ i → drop i badges ≡ []
@@ -32,5 +32,5 @@ none_left [] (suc i) past = refl
 none_left (m ∷ rows) zero past = absurd (omega arith)
 none_left (m ∷ rows) (suc i) past = none_left rows i (omega arith)
 
-pub found-none : (badges : List Badge) (badge : List ℕ) (i : ℕ) → length badges ≤ i → IsBehind badges badge i → None ≡ user_of (rows_of badges) badge
+pub found-none : (badges : List Badge) (badge : List ℕ) (i : ℕ) → length badges ≤ i → IsAfter badges badge i → None ≡ user_of (rows_of badges) badge
 found-none badges badge i past before = sym (before ∙ ap (λ l. user_of (rows_of l) badge) (none_left badges i past))

@@ -3,7 +3,7 @@ use Rattle.std.proofs.Common.{◌≡◌, ◌⊎◌, ℕ, List, [], ◌∷◌, le
 use Rattle.std.specs.Prelude.{IfSome, IsErrAnd}
 use Rattle.bank_books.specs.WorldLists.{WorldLists}
 use Rattle.bank_policy.specs.Policy.{PolicyLists}
-use Rattle.list_opening.specs.Opening.{IsTold, Ledger, ◌>>=◌, ledger_of, opened, opening, policy_of}
+use Rattle.list_opening.specs.Opening.{IsReported, Ledger, ◌>>=◌, ledger_of, opened, opening, policy_of}
 use Rattle.list_opening.specs.declared.list_fault.ListFault.{ListFault}
 use Rattle.list_opening.specs.declared.list_fault.ListFault.TheVariants.{Memory}
 
@@ -29,11 +29,11 @@ opening_of (a ∷ b ∷ c ∷ e ∷ f ∷ g ∷ h ∷ i ∷ []) d eight = refl
 opening_of (a ∷ b ∷ c ∷ e ∷ f ∷ g ∷ h ∷ i ∷ j ∷ rest) d eight = absurd (omega arith)
 
 pub opens : (texts : List (Bor (List ℕ))) (d : Bor (List ℕ)) (books : Ledger) (policy : PolicyLists) (world : WorldLists) → length texts ≡ 8 → books_at texts d ≡ Ok books → policy_at texts d ≡ Ok policy → world ≡ opened books policy
-    → IsTold (opening (map (λ t. t.now) texts)) (Ok world)
+    → IsReported (opening (map (λ t. t.now) texts)) (Ok world)
 opens texts d books policy world eight b p is = inl (ap Ok is ∙ sym (opening_of texts d eight ∙ ap (λ r. both r (policy_at texts d)) b ∙ ap (both (Ok books)) p))
 
 pub refuses : (texts : List (Bor (List ℕ))) (d : Bor (List ℕ)) (books : Ledger) (fault : ListFault) (result : Result WorldLists ListFault) → length texts ≡ 8 → books_at texts d ≡ Ok books
-    → (fault ≡ Memory) ⊎ (policy_at texts d ≡ Err fault) → IsErrAnd result (λ e. e ≡ fault) → IsTold (opening (map (λ t. t.now) texts)) result
+    → (fault ≡ Memory) ⊎ (policy_at texts d ≡ Err fault) → IsErrAnd result (λ e. e ≡ fault) → IsReported (opening (map (λ t. t.now) texts)) result
 refuses texts d books fault (Ok w) eight b p is = absurd is
 refuses texts d books fault (Err e) eight b (inl memory) is = inr (ap Err (is ∙ memory))
 refuses texts d books fault (Err e) eight b (inr p) is = inl (ap Err is ∙ sym (opening_of texts d eight ∙ ap (λ r. both r (policy_at texts d)) b ∙ ap (both (Ok books)) p))

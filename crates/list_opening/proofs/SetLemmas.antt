@@ -76,16 +76,16 @@ next_same m (n ∷ rest) last = same n.set m.set (flip (n.set == m.set) last)
 
 -- ---- a loop over members
 
--- so many members were taken: these sets are whole, and these members wait
+-- i members were taken: these sets are whole, and these members wait
 pub record AreTaken (rows : List SetMember) (i : ℕ) (sets : List SetRow) (members : List Member) : Type 0 where
   pub set : ℕ
-  pub told : grouped rows ≡ sets ++ pend set members (grouped (drop i rows))
+  pub stated : grouped rows ≡ sets ++ pend set members (grouped (drop i rows))
   pub waits : (members ≡ []) ⊎ StartsWith set (drop i rows)
 
 pub taken-none : (rows : List SetMember) (sets : List SetRow) (members : List Member) → sets ≡ [] → members ≡ [] → AreTaken rows 0 sets members
 taken-none rows sets members no_sets no_members = record {
   set = 0;
-  told = sym (ap₂ (λ s ms. s ++ pend 0 ms (grouped rows)) no_sets no_members);
+  stated = sym (ap₂ (λ s ms. s ++ pend 0 ms (grouped rows)) no_sets no_members);
   waits = inl no_members;
 }
 
@@ -102,7 +102,7 @@ taken-more rows i m sets members new below is last pushed before =
     let rest = split rows i m below is in
     record {
       set = m.set;
-      told = before.told ∙ ap (λ l. sets ++ l) (ap (λ l. pend before.set members (grouped l)) rest ∙ one_more before.set members m (drop (i + 1) rows) (subst (λ l. (members ≡ []) ⊎ StartsWith before.set l) rest before.waits)
+      stated = before.stated ∙ ap (λ l. sets ++ l) (ap (λ l. pend before.set members (grouped l)) rest ∙ one_more before.set members m (drop (i + 1) rows) (subst (λ l. (members ≡ []) ⊎ StartsWith before.set l) rest before.waits)
           ∙ ap (λ ms. pend m.set ms (grouped (drop (i + 1) rows))) (sym pushed));
       waits = inr (next_same m (drop (i + 1) rows) (last ∙ ap is_last rest));
     }
@@ -113,7 +113,7 @@ taken-set rows i m sets new_sets members own new below is last pushed made none 
     let rest = split rows i m below is in
     record {
       set = m.set;
-      told = before.told ∙ ap (λ l. sets ++ l) (ap (λ l. pend before.set members (grouped l)) rest ∙ one_more before.set members m (drop (i + 1) rows) (subst (λ l. (members ≡ []) ⊎ StartsWith before.set l) rest before.waits)
+      stated = before.stated ∙ ap (λ l. sets ++ l) (ap (λ l. pend before.set members (grouped l)) rest ∙ one_more before.set members m (drop (i + 1) rows) (subst (λ l. (members ≡ []) ⊎ StartsWith before.set l) rest before.waits)
           ∙ ended members m (drop (i + 1) rows) (last ∙ ap is_last rest) ∙ ap (λ ms. record { set = m.set; members = ms } ∷ grouped (drop (i + 1) rows)) (sym pushed))
           ∙ sym (append_assoc sets (record { set = m.set; members = own } ∷ []) (grouped (drop (i + 1) rows))) ∙ ap₂ (λ s ms. s ++ pend m.set ms (grouped (drop (i + 1) rows))) (sym made) (sym none);
       waits = inl none;
@@ -130,14 +130,14 @@ none_left (m ∷ rows) zero past = absurd (omega arith)
 none_left (m ∷ rows) (suc i) past = none_left rows i (omega arith)
 
 pub taken-all : (rows : List SetMember) (i : ℕ) (sets : List SetRow) (members : List Member) → length rows ≤ i → AreTaken rows i sets members → sets ≡ grouped rows
-taken-all rows i sets members past taken = go members taken.set taken.told taken.waits
+taken-all rows i sets members past taken = go members taken.set taken.stated taken.waits
   where
     rest : drop i rows ≡ []
     rest = none_left rows i past
 
     go : (ms : List Member) (k : ℕ) → grouped rows ≡ sets ++ pend k ms (grouped (drop i rows)) → (ms ≡ []) ⊎ StartsWith k (drop i rows) → sets ≡ grouped rows
-    go ms k told (inl none) = sym (told ∙ ap₂ (λ l r. sets ++ pend k l (grouped r)) none rest ∙ append-nil sets)
-    go ms k told (inr starts) = absurd (subst (StartsWith k) rest starts)
+    go ms k stated (inl none) = sym (stated ∙ ap₂ (λ l r. sets ++ pend k l (grouped r)) none rest ∙ append-nil sets)
+    go ms k stated (inr starts) = absurd (subst (StartsWith k) rest starts)
 
 -- ---- the order of sets
 

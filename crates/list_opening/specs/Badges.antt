@@ -3,7 +3,7 @@ use Rattle.std.specs.Prelude.{ℕ, List, [], ◌∷◌, ◌++◌, codes, Option,
 use Rattle.std.specs.List.{find}
 use Rattle.std.specs.Str.{bytes_eq}
 use Rattle.list_fields.specs.Names.{is_badge}
-use Rattle.list_records.specs.Records.{Record, begun_behind, gathered, records_of}
+use Rattle.list_records.specs.Records.{Record, begun_after, gathered, records_of}
 use Rattle.list_records.specs.declared.fault.RecordFault.{RecordFault}
 use Rattle.list_opening.specs.Rows.{◌>>=◌, user_number}
 
@@ -34,4 +34,4 @@ badge_names = codes "badge" ∷ codes "user" ∷ []
 
 -- the badges of a whole list, whose heading is `badge,user`; or the first bad record
 abbrev pub badges_of : List ℕ → Result Badges RecordFault
-badges_of text = gathered (begun_behind badge_names) with_badge [] (records_of text)
+badges_of text = gathered (begun_after badge_names) with_badge [] (records_of text)

@@ -10,7 +10,7 @@ use Rattle.bank_policy.specs.Policy.{PolicyLists}
 use Rattle.bank_policy.specs.SetRow.{SetRow}
 use Rattle.bank_policy.specs.PolicyKeys.{certifier_key, relation_key, triple_key, user_key}
 use Rattle.bank_policy.specs.declared.rows.Triple.{Triple}
-use Rattle.list_records.specs.Records.{Record, begun_behind, gathered, records_of}
+use Rattle.list_records.specs.Records.{Record, begun_after, gathered, records_of}
 use Rattle.list_records.specs.declared.fault.RecordFault.{RecordFault}
 use Rattle.list_records.specs.declared.fault.RecordFault.TheVariants as record_fault
 use Rattle.list_order.specs.Sorted.{in_order}
@@ -35,7 +35,7 @@ in_file file record_fault.Memory = Memory
 
 -- the rows of a list in order of their keys, those of one key in the order of their records; or the first bad record
 abbrev pub listed : {T : Type 0} → ListName → (T → ℕ) → (Record → Option T) → Record → List ℕ → Result (List T) ListFault
-listed file key row_of heading text = result_map_both (in_order key) (in_file file) (gathered (begun_behind heading) (with_row row_of) [] (records_of text))
+listed file key row_of heading text = result_map_both (in_order key) (in_file file) (gathered (begun_after heading) (with_row row_of) [] (records_of text))
 
 -- the names in the heading of each list but the triples
 abbrev pub branch_names : Record
@@ -118,5 +118,5 @@ opening (branches ∷ tellers ∷ accounts ∷ users ∷ sets ∷ relations ∷ 
 opening _ = Err Memory
 
 -- It is what the lists say; or memory was refused, and that is reported.
-abbrev pub IsTold : {S : Type 0} → Result S ListFault → Result S ListFault → Type 0
-IsTold says result = (result ≡ says) ⊎ (result ≡ Err Memory)
+abbrev pub IsReported : {S : Type 0} → Result S ListFault → Result S ListFault → Type 0
+IsReported says result = (result ≡ says) ⊎ (result ≡ Err Memory)

@@ -26,9 +26,9 @@ begun_triples so_far r =
     if is_record timed_names r then Some (true, so_far.1) else if is_record triple_names r then Some (false, so_far.1) else None
 
 -- the triple that a record states under such a heading
-abbrev pub triple_behind : Bool → Record → Option Triple
-triple_behind timed r = if timed then timed_row r else triple_row r
+abbrev pub triple_after : Bool → Record → Option Triple
+triple_after timed r = if timed then timed_row r else triple_row r
 
 -- with the triple of one more record
 abbrev pub with_triple : TriplesRead → Record → Option TriplesRead
-with_triple so_far r = option_map (λ row. (so_far.0, so_far.1 ++ row ∷ [])) (triple_behind so_far.0 r)
+with_triple so_far r = option_map (λ row. (so_far.0, so_far.1 ++ row ∷ [])) (triple_after so_far.0 r)

@@ -1,7 +1,7 @@
 //! The list of badges, and the user of a badge.
 
 ghost use Rattle.std.specs.Prelude.{◌≡◌, option_map, map};
-ghost use Rattle.list_records.specs.Records.{IsTold};
+ghost use Rattle.list_records.specs.Records.{IsReported};
 ghost use Rattle.list_opening.specs.Badges.{badge_row, badges_of, user_of};
 ghost use Rattle.list_opening.specs.BadgeRows.{rows_of};
 
@@ -69,10 +69,10 @@ fn user_among(badges: &[Badge], badge: &[u8]) -> Option<u32>
 
 impl Gather for Badges {
     ghost use Rattle.list_opening.specs.Badges.{with_badge};
-    ghost use Rattle.list_records.specs.Records.{begun_behind};
+    ghost use Rattle.list_records.specs.Records.{begun_after};
     ghost use Rattle.list_opening.specs.Badges.{badge_names};
 
-    ghost begun_by = { λ badges r. begun_behind badge_names badges r };
+    ghost begun_by = { λ badges r. begun_after badge_names badges r };
 
     ghost with_record = { with_badge };
 
@@ -113,7 +113,7 @@ fn badge_row<'a>(fields: &[&'a [u8]]) -> Option<(&'a [u8], u32)>
 /// The users of a list of badges, whose heading is `badge,user`. The fault is the first bad record, or that memory was
 /// refused, which may come at any record. A badge that stands twice is bad at its second record.
 pub fn read_badges(alloc: Global, text: &[u8]) -> Result<Badges, RecordFault>
-    ensures { IsTold (badges_of text.now) result }
+    ensures { IsReported (badges_of text.now) result }
 {
     gather(alloc, text, Badges::new(alloc))
 }

@@ -60,9 +60,9 @@ impl<T> Rows<T> {
 
 impl<T: ListRow + Drop> Gather for Rows<T> {
     ghost use Rattle.list_opening.specs.Rows.{with_row};
-    ghost use Rattle.list_records.specs.Records.{begun_behind};
+    ghost use Rattle.list_records.specs.Records.{begun_after};
 
-    ghost begun_by = { λ rows r. begun_behind T.heading rows r };
+    ghost begun_by = { λ rows r. begun_after T.heading rows r };
 
     ghost with_record = { λ rows r. with_row T.row_of rows r };
 

@@ -5,7 +5,7 @@ ghost use Rattle.std.specs.List.Sorted.{IsNonDecreasingBy};
 ghost use Rattle.bank_books.specs.Room.{AreInOrder, world_of};
 ghost use Rattle.bank_policy.specs.Policy.{PolicyLists};
 ghost use Rattle.bank_policy.specs.PolicyKeys.{set_key};
-ghost use Rattle.list_opening.specs.Opening.{IsTold, ledger_of, opened, opening, policy_of, sets_of};
+ghost use Rattle.list_opening.specs.Opening.{IsReported, ledger_of, opened, opening, policy_of, sets_of};
 
 use crate::item_sets::item_sets;
 use crate::list_fault::{ListFault, ListName};
@@ -22,7 +22,7 @@ fn read_books(
     tellers: &[u8],
     accounts: &[u8],
 ) -> Result<Lists, ListFault>
-    ensures told { IfOk result (λ lists. ledger_of branches.now tellers.now accounts.now ≡ Ok (record { branches = lists.branches.items; tellers = lists.tellers.items; accounts = lists.accounts.items })) }
+    ensures stated { IfOk result (λ lists. ledger_of branches.now tellers.now accounts.now ≡ Ok (record { branches = lists.branches.items; tellers = lists.tellers.items; accounts = lists.accounts.items })) }
     ensures opened { IfOk result (λ lists. (policy : PolicyLists) → world_of lists policy 0 ≡ opened (record { branches = lists.branches.items; tellers = lists.tellers.items; accounts = lists.accounts.items }) policy) }
     ensures in_order { IfOk result AreInOrder }
     ensures bad { IfErr result (λ fault. (fault ≡ ListFault.Memory) ⊎ (ledger_of branches.now tellers.now accounts.now ≡ Err fault)) }
@@ -36,7 +36,7 @@ fn read_books(
 
 /// The sets of a list of members, in order of their numbers; or its first bad record.
 fn read_sets(alloc: Global, sets: &[u8]) -> Result<Vec<ItemSet>, ListFault>
-    ensures told { IfOk result (λ rows. sets_of sets.now ≡ Ok rows.items) }
+    ensures stated { IfOk result (λ rows. sets_of sets.now ≡ Ok rows.items) }
     ensures in_order { IfOk result (λ rows. IsNonDecreasingBy set_key rows.items) }
     ensures bad { IfErr result (λ fault. (fault ≡ ListFault.Memory) ⊎ (sets_of sets.now ≡ Err fault)) }
 {
@@ -53,7 +53,7 @@ fn read_policy(
     triples: &[u8],
     certifiers: &[u8],
 ) -> Result<Policy, ListFault>
-    ensures told { IfOk result (λ policy. policy_of users.now sets.now relations.now triples.now certifiers.now ≡ Ok policy) }
+    ensures stated { IfOk result (λ policy. policy_of users.now sets.now relations.now triples.now certifiers.now ≡ Ok policy) }
     ensures bad { IfErr result (λ fault. (fault ≡ ListFault.Memory) ⊎ (policy_of users.now sets.now relations.now triples.now certifiers.now ≡ Err fault)) }
 {
     let users = read_list(alloc, ListName::Users, users)?;
@@ -74,7 +74,7 @@ fn read_policy(
 /// its first day, and nothing is entered. The fault is the first bad record of the first list that has one, or that memory
 /// was refused, which may come at any record. Rows of one key stand in the order of their records.
 pub fn read_lists(alloc: Global, texts: &[&[u8]; 8]) -> Result<World, ListFault>
-    ensures { IsTold (opening (map (λ t. t.now) texts.now)) result }
+    ensures { IsReported (opening (map (λ t. t.now) texts.now)) result }
 {
     let [
         branches,

@@ -21,7 +21,7 @@ pub(crate) fn read_list<T: ListRow + Keyed + Drop>(
     file: ListName,
     text: &[u8],
 ) -> Result<Vec<T>, ListFault>
-    ensures told { IfOk result (λ rows. listed file T.key T.row_of T.heading text.now ≡ Ok rows.items) }
+    ensures stated { IfOk result (λ rows. listed file T.key T.row_of T.heading text.now ≡ Ok rows.items) }
     ensures in_order { IfOk result (λ rows. IsNonDecreasingBy T.key rows.items) }
     ensures bad { IfErr result (λ fault. (fault ≡ ListFault.Memory) ⊎ (listed file T.key T.row_of T.heading text.now ≡ Err fault)) }
 {
@@ -34,7 +34,7 @@ pub(crate) fn read_list<T: ListRow + Keyed + Drop>(
 
 /// The triples of their list in order of their keys, or its first bad record.
 pub(crate) fn read_triples(alloc: Global, text: &[u8]) -> Result<Vec<Triple>, ListFault>
-    ensures told { IfOk result (λ rows. triples_of text.now ≡ Ok rows.items) }
+    ensures stated { IfOk result (λ rows. triples_of text.now ≡ Ok rows.items) }
     ensures in_order { IfOk result (λ rows. IsNonDecreasingBy triple_key rows.items) }
     ensures bad { IfErr result (λ fault. (fault ≡ ListFault.Memory) ⊎ (triples_of text.now ≡ Err fault)) }
 {

@@ -2,7 +2,7 @@
 
 ghost use Rattle.std.specs.Prelude.{◌≡◌, map};
 ghost use Rattle.list_records.specs.Records.{is_record};
-ghost use Rattle.list_opening.specs.Triples.{timed_names, triple_behind, triple_names};
+ghost use Rattle.list_opening.specs.Triples.{timed_names, triple_after, triple_names};
 
 use crate::rows::{timed_row, triple_row};
 use bank_policy::Triple;
@@ -49,8 +49,8 @@ impl TripleRows {
 }
 
 /// The triple that a record states under a heading with moments, or under one without.
-fn triple_behind(timed: bool, fields: &[&[u8]]) -> Option<Triple>
-    ensures { result ≡ triple_behind timed (map (λ f. f.now) fields.now) }
+fn triple_after(timed: bool, fields: &[&[u8]]) -> Option<Triple>
+    ensures { result ≡ triple_after timed (map (λ f. f.now) fields.now) }
 {
     if timed {
         timed_row(fields)
@@ -89,7 +89,7 @@ impl Gather for TripleRows {
     }
 
     fn add(&mut self, _alloc: Global, fields: &[&[u8]]) -> Result<bool, AllocError> {
-        match triple_behind(self.timed, fields) {
+        match triple_after(self.timed, fields) {
             Some(row) => {
                 self.rows.push(row)?;
                 Ok(true)

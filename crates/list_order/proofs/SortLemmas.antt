@@ -60,8 +60,8 @@ module _ {T : Type 0} (key : T → ℕ) where
   least a k (y ∷ ys) rest x low some = go (λ e. least a k ys rest x low.1 e) (key y == k) refl some
     where
       go : (like k ys ≡ x ∷ rest → a ≤ k) → (b : Bool) → (key y == k) ≡ b → cond b (y ∷ like k ys) (like k ys) ≡ x ∷ rest → a ≤ k
-      go behind true is e = at_least a (key y) k is low.0
-      go behind false is e = behind e
+      go following true is e = at_least a (key y) k is low.0
+      go following false is e = following e
 
   least_first : (a : T) (us : List T) (k : ℕ) (rest : List T) (x : T) → AllByRecursion (λ y. key a ≤ key y) us → like k (a ∷ us) ≡ x ∷ rest → key a ≤ k
   least_first a us k rest x low some = least (key a) k (a ∷ us) rest x (omega arith, low) some
@@ -116,12 +116,12 @@ module _ {T : Type 0} (key : T → ℕ) where
           kept k e (y ∷ ys) is ∙ ap (λ l. e ∷ l) none ∙ sym (kept k e [] is) ∙ ap (λ l. l ++ like k (e ∷ [])) (sym none)
       before false is above = left k e (y ∷ ys) is ∙ sym (append-nil (like k (y ∷ ys))) ∙ ap (λ l. like k (y ∷ ys) ++ l) (sym (left k e [] is))
 
-      behind : (b : Bool) → (key y == k) ≡ b → like k (add_row key e ys) ≡ like k ys ++ like k (e ∷ []) → like k (y ∷ add_row key e ys) ≡ like k (y ∷ ys) ++ like k (e ∷ [])
-      behind true is rest = kept k y (add_row key e ys) is ∙ ap (λ l. y ∷ l) rest ∙ ap (λ l. l ++ like k (e ∷ [])) (sym (kept k y ys is))
-      behind false is rest = left k y (add_row key e ys) is ∙ rest ∙ ap (λ l. l ++ like k (e ∷ [])) (sym (left k y ys is))
+      following : (b : Bool) → (key y == k) ≡ b → like k (add_row key e ys) ≡ like k ys ++ like k (e ∷ []) → like k (y ∷ add_row key e ys) ≡ like k (y ∷ ys) ++ like k (e ∷ [])
+      following true is rest = kept k y (add_row key e ys) is ∙ ap (λ l. y ∷ l) rest ∙ ap (λ l. l ++ like k (e ∷ [])) (sym (kept k y ys is))
+      following false is rest = left k y (add_row key e ys) is ∙ rest ∙ ap (λ l. l ++ like k (e ∷ [])) (sym (left k y ys is))
 
       go : (b : Bool) → nat_le (key y) (key e) ≡ b → like k (add_row key e ys) ≡ like k ys ++ like k (e ∷ []) → like k (cond b (y ∷ add_row key e ys) (e ∷ y ∷ ys)) ≡ like k (y ∷ ys) ++ like k (e ∷ [])
-      go true is rest = behind (key y == k) refl rest
+      go true is rest = following (key y == k) refl rest
       go false is rest = before (key e == k) refl (low (key y) (key e) is)
 
   two : (k : ℕ) (x : T) (xs : List T) → like k (x ∷ []) ++ like k xs ≡ like k (x ∷ xs)

@@ -45,11 +45,11 @@ leaves_less cfg s fields field (c ∷ rest) p is = go (leaves_less cfg (step cfg
     go : (next_record cfg (step cfg s c).0 (fields_after (step cfg s c).1 fields field) (field_after (step cfg s c).1 c field) rest ≡ Some p → length p.2 ≤ length rest - 1)
         → (b : Bool) → cond b (Some (fields_after (step cfg s c).1 fields field, (step cfg s c).0, rest)) (next_record cfg (step cfg s c).0 (fields_after (step cfg s c).1 fields field) (field_after (step cfg s c).1 c field) rest) ≡ Some p
         → length p.2 ≤ length (c ∷ rest) - 1
-    go behind true e =
+    go following true e =
         let same : p ≡ (fields_after (step cfg s c).1 fields field, (step cfg s c).0, rest) = sym (some_is _ p e) in
         let long = ap (λ (q : Read). length q.2) same in
         omega (arith, long)
-    go behind false e = let less = behind e in omega (arith, less)
+    go following false e = let less = following e in omega (arith, less)
 
 -- ---- the records that are left
 
@@ -72,13 +72,13 @@ left_same cfg (suc n) (suc m) s ys a b = go (left_same cfg n m) (next_record cfg
     Same : Type 0
     Same = (t : State) (zs : List ℕ) → length zs < n → length zs < m → records_from cfg n t zs ≡ records_from cfg m t zs
 
-    behind : Same → (bytes : List ℕ) (p : Read) → length bytes < suc n → length bytes < suc m → next_record cfg s [] [] bytes ≡ Some p → records_from cfg n p.1 p.2 ≡ records_from cfg m p.1 p.2
-    behind same [] p c d is = let none = at_end cfg s [] [] p is in ended_at cfg n p none.0 none.1 ∙ sym (ended_at cfg m p none.0 none.1)
-    behind same (byte ∷ rest) p c d is = let less = leaves_less cfg s [] [] (byte ∷ rest) p is in same p.1 p.2 (omega (arith, less)) (omega (arith, less))
+    following : Same → (bytes : List ℕ) (p : Read) → length bytes < suc n → length bytes < suc m → next_record cfg s [] [] bytes ≡ Some p → records_from cfg n p.1 p.2 ≡ records_from cfg m p.1 p.2
+    following same [] p c d is = let none = at_end cfg s [] [] p is in ended_at cfg n p none.0 none.1 ∙ sym (ended_at cfg m p none.0 none.1)
+    following same (byte ∷ rest) p c d is = let less = leaves_less cfg s [] [] (byte ∷ rest) p is in same p.1 p.2 (omega (arith, less)) (omega (arith, less))
 
     go : Same → (o : Option Read) → next_record cfg s [] [] ys ≡ o → records_next (records_from cfg n) o ≡ records_next (records_from cfg m) o
     go same None is = refl
-    go same (Some p) is = ap (λ l. p.0 ∷ l) (behind same ys p a b is)
+    go same (Some p) is = ap (λ l. p.0 ∷ l) (following same ys p a b is)
 
 abbrev pub rest_of : State → List ℕ → List Record
 rest_of s ys = records_from default_config (length ys + 1) s ys
@@ -88,11 +88,11 @@ unfolding records_from
 opened_at cfg n s ys o is = rw add-one (ap (records_next (records_from cfg n)) is)
 
 rest-some : (s : State) (ys : List ℕ) (p : Read) → next_record default_config s [] [] ys ≡ Some p → rest_of s ys ≡ p.0 ∷ rest_of p.1 p.2
-rest-some s ys p is = opened_at default_config (length ys) s ys (Some p) is ∙ ap (λ l. p.0 ∷ l) (behind ys is)
+rest-some s ys p is = opened_at default_config (length ys) s ys (Some p) is ∙ ap (λ l. p.0 ∷ l) (following ys is)
   where
-    behind : (bytes : List ℕ) → next_record default_config s [] [] bytes ≡ Some p → records_from default_config (length bytes) p.1 p.2 ≡ rest_of p.1 p.2
-    behind [] none = let at = at_end default_config s [] [] p none in ended_at default_config 0 p at.0 at.1 ∙ sym (ended_at default_config (length p.2 + 1) p at.0 at.1)
-    behind (byte ∷ rest) some = let less = leaves_less default_config s [] [] (byte ∷ rest) p some in left_same default_config (length (byte ∷ rest)) (length p.2 + 1) p.1 p.2 (omega (arith, less)) (omega arith)
+    following : (bytes : List ℕ) → next_record default_config s [] [] bytes ≡ Some p → records_from default_config (length bytes) p.1 p.2 ≡ rest_of p.1 p.2
+    following [] none = let at = at_end default_config s [] [] p none in ended_at default_config 0 p at.0 at.1 ∙ sym (ended_at default_config (length p.2 + 1) p at.0 at.1)
+    following (byte ∷ rest) some = let less = leaves_less default_config s [] [] (byte ∷ rest) p some in left_same default_config (length (byte ∷ rest)) (length p.2 + 1) p.1 p.2 (omega (arith, less)) (omega arith)
 
 -- ---- how many records there are
 
@@ -142,8 +142,8 @@ stops_at s fields field (c ∷ rest) p is =
         → (b : Bool) → is_end (step default_config s c).1 ≡ b
         → cond b (Some (fields_after (step default_config s c).1 fields field, (step default_config s c).0, rest)) (next_record default_config (step default_config s c).0 (fields_after (step default_config s c).1 fields field) (field_after (step default_config s c).1 c field) rest) ≡ Some p
         → ends_at_end p.1 ≡ false
-    go behind true end e = ap (λ (q : Read). ends_at_end q.1) (sym (some_is _ p e)) ∙ step-ends s c end
-    go behind false end e = behind e
+    go following true end e = ap (λ (q : Read). ends_at_end q.1) (sym (some_is _ p e)) ∙ step-ends s c end
+    go following false end e = following e
 
 -- so there are no more records than bytes
 few : (n : ℕ) (s : State) (ys : List ℕ) → ends_at_end s ≡ false → length (records_from default_config n s ys) ≤ length ys
@@ -157,8 +157,8 @@ few (suc n) s (c ∷ rest) plain = go (few n) (next_record default_config s [] [
     go fewer None is = omega arith
     go fewer (Some p) is =
         let less = leaves_less default_config s [] [] (c ∷ rest) p is in
-        let behind = fewer p.1 p.2 (stops_at s [] [] (c ∷ rest) p is) in
-        omega (arith, less, behind)
+        let following = fewer p.1 p.2 (stops_at s [] [] (c ∷ rest) p is) in
+        omega (arith, less, following)
 
 length-strip_bom : (text : List ℕ) → length (strip_bom text) ≤ length text
 unfolding strip_bom
@@ -230,14 +230,14 @@ not_first : (n : ℕ) → (suc n + 1 == 1) ≡ false
 not_first n = grind (arith, nat_tests)
 
 module _ {S : Type 0} (begun_by with_record : S → Record → Option S) where
-  -- where so many records were taken
+  -- after n records were taken
   abbrev pub still : ℕ → S → List Record → Result S RecordFault
   still zero s rows = gathered begun_by with_record s rows
   still (suc n) s rows = gathered_from begun_by with_record (suc n + 1) s rows
 
   -- a record after the heading
-  behind : (n : ℕ) (s : S) (r : Record) → taken begun_by with_record (suc n + 1) s r ≡ with_record s r
-  behind n s r = ap (λ b. cond b (begun_by s r) (with_record s r)) (not_first n)
+  following : (n : ℕ) (s : S) (r : Record) → taken begun_by with_record (suc n + 1) s r ≡ with_record s r
+  following n s r = ap (λ b. cond b (begun_by s r) (with_record s r)) (not_first n)
 
   later : (n k : ℕ) (t : S) (rest : List Record) → k ≡ suc (suc n) → gathered_from begun_by with_record (suc n + 1 + 1) t rest ≡ still k t rest
   later n k t rest is = rw is (ap (λ m. gathered_from begun_by with_record m t rest) (omega arith))
@@ -245,13 +245,13 @@ module _ {S : Type 0} (begun_by with_record : S → Record → Option S) where
   pub still-good : (n : ℕ) (s t : S) (r : Record) (rest : List Record) → taken begun_by with_record (n + 1) s r ≡ Some t → still n s (r ∷ rest) ≡ still (n + 1) t rest
   still-good zero s t r rest is = ap (λ o. option_map_or (λ u. gathered_from begun_by with_record 2 u rest) o (Err (Bad 1))) is
   still-good (suc n) s t r rest is =
-      ap (λ o. option_map_or (λ u. gathered_from begun_by with_record (suc n + 1 + 1) u rest) o (Err (Bad (suc n + 1)))) (sym (behind n s r) ∙ is)
+      ap (λ o. option_map_or (λ u. gathered_from begun_by with_record (suc n + 1 + 1) u rest) o (Err (Bad (suc n + 1)))) (sym (following n s r) ∙ is)
       ∙ later n (suc n + 1) t rest (omega arith)
 
   pub still-bad : (n : ℕ) (s : S) (r : Record) (rest : List Record) → taken begun_by with_record (n + 1) s r ≡ None → still n s (r ∷ rest) ≡ Err (Bad (n + 1))
   still-bad zero s r rest is = ap (λ o. option_map_or (λ u. gathered_from begun_by with_record 2 u rest) o (Err (Bad 1))) is
   still-bad (suc n) s r rest is =
-      ap (λ o. option_map_or (λ u. gathered_from begun_by with_record (suc n + 1 + 1) u rest) o (Err (Bad (suc n + 1)))) (sym (behind n s r) ∙ is)
+      ap (λ o. option_map_or (λ u. gathered_from begun_by with_record (suc n + 1 + 1) u rest) o (Err (Bad (suc n + 1)))) (sym (following n s r) ∙ is)
 
   pub still-end : (n : ℕ) (s : S) → 0 < n → still n s [] ≡ Ok s
   still-end zero s some = absurd (omega arith)
@@ -260,15 +260,15 @@ module _ {S : Type 0} (begun_by with_record : S → Record → Option S) where
   -- the same of numbers, records and answers that a loop holds
   pub goes-on : (says : Result S RecordFault) (n k : ℕ) (s t : S) (r : Record) (rows rest : List Record) (good : Bool) → says ≡ still n s rows → rows ≡ r ∷ rest → k ≡ n + 1
       → taken begun_by with_record k s r ≡ cond good (Some t) None → true ≡ good → says ≡ still k t rest
-  goes-on says n k s t r rows rest false so_far first next told is = cc
-  goes-on says n k s t r rows rest true so_far first next told is =
-      so_far ∙ ap (still n s) first ∙ still-good n s t r rest (ap (λ m. taken begun_by with_record m s r) (sym next) ∙ told) ∙ ap (λ m. still m t rest) (sym next)
+  goes-on says n k s t r rows rest false so_far first next stated is = cc
+  goes-on says n k s t r rows rest true so_far first next stated is =
+      so_far ∙ ap (still n s) first ∙ still-good n s t r rest (ap (λ m. taken begun_by with_record m s r) (sym next) ∙ stated) ∙ ap (λ m. still m t rest) (sym next)
 
   pub stops : (says : Result S RecordFault) (n k : ℕ) (s t : S) (r : Record) (rows rest : List Record) (good : Bool) → says ≡ still n s rows → rows ≡ r ∷ rest → k ≡ n + 1
       → taken begun_by with_record k s r ≡ cond good (Some t) None → false ≡ good → Err (Bad k) ≡ says
-  stops says n k s t r rows rest true so_far first next told is = cc
-  stops says n k s t r rows rest false so_far first next told is =
-      sym (so_far ∙ ap (still n s) first ∙ still-bad n s r rest (ap (λ m. taken begun_by with_record m s r) (sym next) ∙ told) ∙ ap (λ m. Err (Bad m)) (sym next))
+  stops says n k s t r rows rest true so_far first next stated is = cc
+  stops says n k s t r rows rest false so_far first next stated is =
+      sym (so_far ∙ ap (still n s) first ∙ still-bad n s r rest (ap (λ m. taken begun_by with_record m s r) (sym next) ∙ stated) ∙ ap (λ m. Err (Bad m)) (sym next))
 
   pub ends-empty : (says : Result S RecordFault) (n : ℕ) (s : S) (rows : List Record) → says ≡ still n s rows → rows ≡ [] → n ≡ 0 → Err (Bad 1) ≡ says
   ends-empty says n s rows so_far none is = sym (so_far ∙ ap (still n s) none ∙ ap (λ m. still m s []) is)

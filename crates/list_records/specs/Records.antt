@@ -38,9 +38,9 @@ module _ {S : Type 0} (begun_by with_record : S → Record → Option S) where
   taken number s r = if number == 1 then begun_by s r else with_record s r
 
 -- a list that has this heading is after it what it was before
-abbrev pub begun_behind : {S : Type 0} → Record → S → Record → Option S
-begun_behind heading s r = if is_record heading r then Some s else None
+abbrev pub begun_after : {S : Type 0} → Record → S → Record → Option S
+begun_after heading s r = if is_record heading r then Some s else None
 
 -- It is what the list says; or memory was refused, and that is reported.
-abbrev pub IsTold : {S : Type 0} → Result S RecordFault → Result S RecordFault → Type 0
-IsTold says result = (result ≡ says) ⊎ (result ≡ Err Memory)
+abbrev pub IsReported : {S : Type 0} → Result S RecordFault → Result S RecordFault → Type 0
+IsReported says result = (result ≡ says) ⊎ (result ≡ Err Memory)

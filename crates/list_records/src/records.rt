@@ -2,7 +2,7 @@
 
 ghost use Rattle.std.specs.Prelude.{◌≡◌, ◌==◌, IfOk, Some, None, map, if◌then◌else◌};
 ghost use Rattle.csv.specs.Records.{fields_of};
-ghost use Rattle.list_records.specs.Records.{IsTold, gathered, is_record, records_of, taken};
+ghost use Rattle.list_records.specs.Records.{IsReported, gathered, is_record, records_of, taken};
 
 use crate::fault::RecordFault;
 use crate::gathering::Gather;
@@ -49,7 +49,7 @@ fn take_record<G: Gather>(
 /// record that is bad, or that memory was refused, which may come at any record. The heading is record 1, and a text
 /// without records is bad at it.
 pub fn gather<G: Gather + Drop>(alloc: Global, text: &[u8], begun: G) -> Result<G, RecordFault>
-    ensures { IsTold (gathered G.begun_by G.with_record begun (records_of text.now)) result }
+    ensures { IsReported (gathered G.begun_by G.with_record begun (records_of text.now)) result }
 {
     let mut reader = ReaderBuilder::new()
         .has_headers(false)

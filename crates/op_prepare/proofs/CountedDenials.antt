@@ -15,8 +15,8 @@ read_counted a b (Ok x) more = tt
 read_counted a b (Err fault) more = rose_by_one a b more
 
 -- after a read that answered
-pub counted_behind : {A : Type 0} (a b c : ℕ) (result : Result A Fault) → b ≡ a → c ≡ counted_once_more b → OnErr result (RoseBy 1 a c)
-counted_behind a b c result kept more = read_counted a c result (more ∙ ap counted_once_more kept)
+pub counted_after : {A : Type 0} (a b c : ℕ) (result : Result A Fault) → b ≡ a → c ≡ counted_once_more b → OnErr result (RoseBy 1 a c)
+counted_after a b c result kept more = read_counted a c result (more ∙ ap counted_once_more kept)
 
 -- the same, of a call that counts its fault where a rule denies
 pub counted_from : {A : Type 0} (a b c : ℕ) (result : Result A Fault) → b ≡ a → OnErr result (RoseBy 1 b c) → OnErr result (RoseBy 1 a c)
@@ -29,8 +29,8 @@ none_denies (Some rule) is some = absurd (cc)
 
 -- a call that answers each denial with its rule reports a fault only where no rule denies
 pub not_denied : {A : Type 0} (said : Option Rule) (result : Result (Result A Rule) Fault) (fault : Fault) → result ≡ Err fault → IfSome said (λ rule. result ≡ Ok (Err rule)) → said ≡ None
-not_denied None result fault is told = refl
-not_denied (Some rule) result fault is told = cc
+not_denied None result fault is stated = refl
+not_denied (Some rule) result fault is stated = cc
 
 -- nor of rows of a World, where none denies these rows
 pub rows_allow : {R A : Type 0} (first_against : R → Option Rule) (rows of_world : R) → rows ≡ of_world → first_against rows ≡ None → IsSome (first_against of_world) → A

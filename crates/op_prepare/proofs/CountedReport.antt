@@ -6,7 +6,7 @@ use Rattle.bank_books.specs.WorldLists.{WorldLists}
 use Rattle.bank_books.specs.declared.records.BranchRecord.{BranchRecord}
 use Rattle.counter_ops.specs.declared.proof.Proof.{Proof}
 use Rattle.rule_tests.specs.Denial.{is_denial}
-use Rattle.bank_meaning.specs.Meaning.{Verdict, by_books, plain, rules_behind_policy}
+use Rattle.bank_meaning.specs.Meaning.{Verdict, by_books, plain, rules_after_policy}
 use Rattle.bank_meaning.specs.Proof.{proof_tests, proof_meaning, proof_text}
 use Rattle.reports.specs.Listing.{all_lines, proof_of, report_text}
 use Rattle.reports.specs.Report.{IsCounted}
@@ -27,4 +27,4 @@ report_counted w v first most c allowed same reply is_first is_most counted = re
 pub proof_counted : (w : WorldLists) (form : Proof) (b : BranchRecord) (c : Contents) → branch_record w form.branch ≡ Some b → c.first ≡ proof_of b → c.most ≡ all_lines → IsCounted w c
     → IsReported w (by_books (proof_meaning form w)) c
 proof_counted w form b c is = report_counted w (by_books (proof_meaning form w)) (proof_of b) all_lines c
-    (ap (λ (row : Option BranchRecord). find (λ r. is_denial r (proof_tests row)) rules_behind_policy) is) refl (ap (λ (row : Option BranchRecord). plain (proof_text w row)) is)
+    (ap (λ (row : Option BranchRecord). find (λ r. is_denial r (proof_tests row)) rules_after_policy) is) refl (ap (λ (row : Option BranchRecord). plain (proof_text w row)) is)

@@ -38,4 +38,4 @@ answered e = absurd (cc)
 -- after calls that answer, a call ends in a fault
 pub fails : {A : Type 0} (old new : Status) (r : Result A Fault) (e : Fault) (P : WorldLists → A → Type 0) → r ≡ Err e
     → (IsTrue old.is_stopped → None ≡ Some fault.Stopped) → KeepsAndCounts old new (Some e) → ReadsRow old new r P
-fails old new r e P is refused kept = rw is (record { told = λ honest w holds. tt; kept = kept.0; refused = λ stopped. answered (refused stopped); counted = kept.1 })
+fails old new r e P is refused kept = rw is (record { stated = λ honest w holds. tt; kept = kept.0; refused = λ stopped. answered (refused stopped); counted = kept.1 })

@@ -23,7 +23,7 @@ use store_rows::BookReads;
 pub(crate) fn rule_against_balance(row: Option<AccountRecord>) -> Option<Rule>
     ensures { result ≡ first_against_balance row }
 {
-    match balance_told(row) {
+    match balance_stated(row) {
         Ok(_) => None,
         Err(rule) => Some(rule),
     }
@@ -40,7 +40,7 @@ pub(crate) fn prepare_balance<B: BookReads>(
     ensures policy { LeavesPolicy result }
 {
     let row = store.account(alloc, balance.account)?;
-    match balance_told(row) {
+    match balance_stated(row) {
         Ok(balance) => {
             let text = balance_text(alloc, balance)?;
             Ok(Ok(Prepared {
@@ -53,7 +53,7 @@ pub(crate) fn prepare_balance<B: BookReads>(
 }
 
 /// The balance that is reported of an account, or the first rule that denies it.
-fn balance_told(row: Option<AccountRecord>) -> Result<Cents, Rule>
+fn balance_stated(row: Option<AccountRecord>) -> Result<Cents, Rule>
     ensures allowed { OnOk result (first_against_balance row ≡ None) }
     ensures value { IfOk result (λ balance. IfSome row (λ a. a.balance ≡ balance)) }
     ensures there { OnOk result (is_some row ≡ true) }

@@ -44,7 +44,7 @@ pub(crate) fn rule_against_new_account(rows: &OpeningRows) -> Option<Rule>
     ])
 }
 
-/// Whether a branch that is the home of so many accounts can be that of no other.
+/// Whether a branch that is the home of this number of accounts can be that of no other.
 fn has_all_accounts(homed: Option<u64>) -> bool
     ensures { result ≡ option_map_or (λ n. nat_le max_accounts n) homed false }
 {

@@ -52,7 +52,7 @@ pub(crate) fn rule_against_release(
     ])
 }
 
-/// Whether a user who was given so many releases can be given no other.
+/// Whether a user who was given this number of releases can be given no other.
 fn has_all_releases(given: Option<u64>) -> bool
     ensures { result ≡ option_map_or (λ n. nat_le max_releases n) given false }
 {
@@ -86,7 +86,7 @@ pub(crate) fn prepare_release<S: PolicyReads + BookReads>(
     Ok(Ok(Prepared { plan, text }))
 }
 
-/// The row of it, for a user who has so many, on this day of the branch.
+/// The row of it, for a user who was given this number before, on this day of the branch.
 fn given_release(given: u64, today: u32, form: &Release, by: Signature) -> bank_books::Release
     requires { given < max_releases }
     ensures { result ≡ given_release given today form.now by }

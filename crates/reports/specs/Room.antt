@@ -25,6 +25,6 @@ HasRoom w (listing.Tellers from) = IfSome (next_teller w from.branch.branch from
 HasRoom w (listing.Totals from) = ⊤
 HasRoom w (listing.Policy after) = IfSome (next_policy w after) HasLine
 
--- so has each of the lines from the first on, at most so many
+-- so has each of the lines from the first on, at most n
 pub record HaveRoom (w : WorldLists) (first : Listing) (most : ℕ) : Type 0 where
   pub each : AllFrom (next_listed w) (HasRoom w) most first

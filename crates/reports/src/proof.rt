@@ -145,7 +145,7 @@ fn listed_total(branch: BranchNumbers, tellers: i128, total: Total) -> Listed
     }
 }
 
-/// What a total comes to.
+/// The sum of a total.
 fn total_of(branch: &BranchNumbers, tellers: i128, total: Total) -> i128
     ensures { result ≡ total_of branch.now tellers total }
 {

@@ -1,3 +1,4 @@
+pub mod InRange
 pub mod NumberLemmas
 pub mod PlainReports
 pub mod RouteLemmas

@@ -26,7 +26,7 @@ has_byte (b ∷ bs) h = omega arith
 no_plus : (b : ℕ) → is_in_range 49 57 b ≡ true → b ≡ 43 → ⊥
 no_plus b h e = false≢true (sym (ap (is_in_range 49 57) e) ∙ h)
 
-number_parts : (bs : List ℕ) → is_number bs ≡ true → (all_ascii_digits bs ≡ true) × (digits_value 10 bs ≤ 999999999)
+pub number_parts : (bs : List ℕ) → is_number bs ≡ true → (all_ascii_digits bs ≡ true) × (digits_value 10 bs ≤ 999999999)
 unfolding is_number
 number_parts bs h =
     let parts = and_parts _ _ h in
@@ -52,8 +52,8 @@ no_number_parsed bs (Err x) h starts e =
 value_parsed : {E : Type 0} (bs : List ℕ) (r : Result ℕ E) → ParsesUnsigned 32 10 bs r
     → is_in_range 49 57 (get_or bs 0 0) ≡ true → (n : ℕ) → Some n ≡ result_ok r → (all_ascii_digits bs ≡ true) × (n ≡ digits_value 10 bs)
 value_parsed {E} bs (Ok m) h starts n e =
-    let told = parse_plain own {E = E} 32 bs (Ok m) h (no_plus _ starts) in
-    (told.0.0, ap (λ o. unwrap_or o 0) e ∙ told.1)
+    let stated = parse_plain own {E = E} 32 bs (Ok m) h (no_plus _ starts) in
+    (stated.0.0, ap (λ o. unwrap_or o 0) e ∙ stated.1)
 value_parsed {E} bs (Err x) h starts n e = absurd (false≢true (sym (ap is_some e)))
 
 -- a text that parses to a number in its range
@@ -62,12 +62,12 @@ pub number_parsed : {E : Type 0} (bs : List ℕ) (r : Result ℕ E) → ParsesUn
     → (is_number bs ≡ true) × (n ≡ digits_value 10 bs)
 unfolding is_number
 number_parsed bs r h starts n e low =
-    let told = value_parsed bs r h starts n e in
-    (and_from _ _ (and_from _ _ starts told.0) (le-leb _ _ (omega (arith, told.1, low))), told.1)
+    let stated = value_parsed bs r h starts n e in
+    (and_from _ _ (and_from _ _ starts stated.0) (le-leb _ _ (omega (arith, stated.1, low))), stated.1)
 
 -- a text that parses to a greater number
 pub no_number_above : {E : Type 0} (bs : List ℕ) (r : Result ℕ E) → ParsesUnsigned 32 10 bs r
     → is_in_range 49 57 (get_or bs 0 0) ≡ true → (n : ℕ) → Some n ≡ result_ok r → 999999999 < n → is_number bs ≡ false
 no_number_above bs r h starts n e high =
-    let told = value_parsed bs r h starts n e in
-    no_true _ (λ k. omega (arith, told.1, (number_parts bs k).1, high))
+    let stated = value_parsed bs r h starts n e in
+    no_true _ (λ k. omega (arith, stated.1, (number_parts bs k).1, high))

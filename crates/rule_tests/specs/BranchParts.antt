@@ -3,7 +3,7 @@ use Rattle.bank_books.specs.declared.records.BranchRecord.{BranchRecord}
 use Rattle.rule_tests.specs.declared.cash_book.CashBook.{CashBook}
 use Rattle.rule_tests.specs.declared.ledger.Ledger.{Ledger}
 
--- what its history comes to, and none of its cash
+-- the sums of its history, without its cash
 abbrev pub ledger_of : BranchRecord → Ledger
 ledger_of b = record { day = b.row.day; balance = b.balance; entries = b.entries; history = b.history }
 

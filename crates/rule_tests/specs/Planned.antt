@@ -8,7 +8,7 @@ use Rattle.rule_tests.specs.declared.planned.Planned.{Planned}
 pub record IsPlan {A : Type 0} (first : Option Rule) (changes : List RowWrite) (left : Option A) (planned : Planned A) : Type 0 where
   pub allowed : first ≡ None
   pub carried : planned.plan.items ≡ changes
-  pub told : left ≡ Some planned.left
+  pub stated : left ≡ Some planned.left
 
 -- the plan, or the first rule that denies
 abbrev pub IsPlanned : {A : Type 0} → Option Rule → List RowWrite → Option A → Result (Planned A) Rule → Type 0

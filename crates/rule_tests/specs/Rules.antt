@@ -9,7 +9,7 @@ use Rattle.bank_books.specs.declared.records.TellerRecord.{TellerRecord}
 use Rattle.rule_tests.specs.declared.cash_book.CashBook.{CashBook}
 use Rattle.rule_tests.specs.declared.ledger.Ledger.{Ledger}
 
--- the last of so many more has no number
+-- the last of n more has no number
 abbrev pub is_full : ℕ → ℕ → Bool
 is_full count more = nat_lt max_key (count + more)
 

@@ -6,7 +6,7 @@ ghost use Rattle.rule_tests.specs.Rules.{account_in_range, account_is_full, acco
 use crate::ranges::{is_below, is_full, is_in_range};
 use bank_books::AccountRecord;
 
-/// Whether an account with so many cents more stays at its floor or above.
+/// Whether an account with `added` cents more stays at its floor or above.
 pub fn account_keeps_floor(row: Option<AccountRecord>, added: i64) -> bool
     ensures { result ≡ account_keeps_floor row added }
 {

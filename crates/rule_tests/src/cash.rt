@@ -35,7 +35,7 @@ pub fn drawer_is_free(row: Option<TellerRecord>) -> bool
     row.is_some_and(|teller| teller.holder.is_none())
 }
 
-/// Whether the cash of a drawer with so many cents more is not below zero.
+/// Whether the cash of a drawer, with `added` cents more, is not below zero.
 pub fn drawer_covers(row: Option<TellerRecord>, added: i64) -> bool
     ensures { result ≡ drawer_covers row added }
 {
@@ -49,7 +49,7 @@ pub fn drawer_in_range(row: Option<TellerRecord>, added: i64) -> bool
     row.is_none_or(|teller| is_in_range(teller.cash, added))
 }
 
-/// Whether the cash of a vault with so many cents more is not below zero.
+/// Whether the cash of a vault, with `added` cents more, is not below zero.
 pub fn vault_covers(cash: Option<i128>, added: i64) -> bool
     ensures { result ≡ vault_covers cash added }
 {
@@ -63,7 +63,7 @@ pub fn vault_in_range(cash: Option<i128>, added: i64) -> bool
     cash.is_none_or(|cash| is_in_range(cash, added))
 }
 
-/// Whether the drawers of a branch with so many cents more hold an amount of money.
+/// Whether the drawers of a branch, with `added` cents more, hold an amount of money.
 pub fn drawers_in_range(row: Option<CashBook>, added: i64) -> bool
     ensures { result ≡ drawers_in_range row added }
 {
@@ -84,7 +84,7 @@ pub fn differences_in_range(row: Option<CashBook>, added: i64) -> bool
     row.is_none_or(|book| is_in_range(book.differences, added))
 }
 
-/// Whether a cash book has no number left for the last of so many lines.
+/// Whether a cash book has no number left for the last of `more` lines.
 pub fn cash_book_is_full(row: Option<CashBook>, more: u8) -> bool
     ensures { result ≡ cash_book_is_full row more }
 {

@@ -17,14 +17,14 @@ pub fn teller_is_of(row: Option<TellerRecord>, branch: u32) -> bool
     }
 }
 
-/// Whether the balance of a teller with so many cents more is an amount of money.
+/// Whether the balance of a teller and `added` cents are together an amount of money.
 pub fn teller_in_range(row: Option<TellerRecord>, added: i64) -> bool
     ensures { result ≡ teller_in_range row added }
 {
     row.is_none_or(|teller| is_in_range(teller.balance, added))
 }
 
-/// Whether the balance of a branch and its sum of deltas with so many cents more are amounts of money.
+/// Whether the balance of a branch and its sum of deltas are amounts of money, with `added` cents more.
 pub fn ledger_in_range(row: Option<Ledger>, added: i64) -> bool
     ensures { result ≡ ledger_in_range row added }
 {
@@ -33,7 +33,7 @@ pub fn ledger_in_range(row: Option<Ledger>, added: i64) -> bool
     })
 }
 
-/// Whether a history has no number left for the last of so many entries.
+/// Whether a history has no number left for the last of `more` entries.
 pub fn ledger_is_full(row: Option<Ledger>, more: u8) -> bool
     ensures { result ≡ ledger_is_full row more }
 {

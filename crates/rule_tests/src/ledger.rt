@@ -5,7 +5,7 @@ ghost use Rattle.rule_tests.specs.BranchParts.{ledger_of};
 
 use bank_books::BranchRecord;
 
-/// What a branch's history comes to, and none of its cash.
+/// The sums of a branch's history, without its cash.
 #[derive(Clone, Copy, Debug, PartialEq, Eq)]
 pub struct Ledger {
     /// The present day of the branch.

@@ -55,7 +55,7 @@ pub(crate) fn is_in_range(number: i128, added: i64) -> bool
     !is_below(number, added, -MAX_CENTS) && !is_above(number, added, MAX_CENTS)
 }
 
-/// Whether so many more make a count that is above the greatest number of a row.
+/// Whether a count and `more` together are above the greatest number of a row.
 pub(crate) fn is_full(count: u64, more: u8) -> bool
     ensures { result ≡ is_full count more }
 {

@@ -9,7 +9,7 @@ use Rattle.exit_lines.specs.Streams.{Streams}
 use Rattle.http_messages.specs.declared.serving.ServeFault.{ServeFault}
 use Rattle.http_messages.specs.declared.serving.Served.{Served}
 use Rattle.sample_bank.specs.Opening.{sample_opening}
-use Rattle.sample_service.specs.Serving.{IsOpening, IsSampleServed, IsSampleServedBehindCache}
+use Rattle.sample_service.specs.Serving.{IsOpening, IsSampleServed, IsSampleServedWithCache}
 use Rattle.store_rows.specs.ListStore.{list_status}
 use Rattle.store_rows.specs.Status.{Status}
 use Rattle.store_rows.specs.declared.list_store.ListStore.{ListStore}
@@ -24,9 +24,9 @@ opens_with store world same passes holds only = record {
 }
 
 -- one with a cache over such a store that keeps nothing yet
-pub opens_behind : {S : Type 0} (status : S → Status) (cached : Cached S) (store : S) → below cached ≡ store → remembered cached ≡ [] → known_version cached ≡ None
+pub opens_with_cache : {S : Type 0} (status : S → Status) (cached : Cached S) (store : S) → below cached ≡ store → remembered cached ≡ [] → known_version cached ≡ None
     → IsOpening status store → IsOpening (cached_status status) cached
-opens_behind status cached store same empty unread opens = record {
+opens_with_cache status cached store same empty unread opens = record {
   passes = opens.passes;
   holds = (
     subst (λ s. (status s).holds sample_opening) (sym same) opens.holds,
@@ -37,9 +37,9 @@ opens_behind status cached store same empty unread opens = record {
 
 -- What was served with a cache in front was served over a store together with its cache.
 pub served_through : {S : Type 0} (status : S → Status) (moment : ℕ) (old new : Streams) (left : Option S) (result : Result Served ServeFault)
-    → IsSampleServedBehindCache status moment old new left result
+    → IsSampleServedWithCache status moment old new left result
     → (ended : Option (Cached S)) × IsSampleServed (cached_status status) moment old new ended result
 served_through status moment old new None result served = (None, served)
 served_through status moment old new (Some left) result (opened, opens, inl through) =
-    (Some through.ended, (through.began, opens_behind status through.began opened through.over through.empty through.unread opens, through.served))
+    (Some through.ended, (through.began, opens_with_cache status through.began opened through.over through.empty through.unread opens, through.served))
 served_through status moment old new (Some left) result (opened, opens, inr (refused, same, unread)) = (None, (refused, unread))

@@ -2,7 +2,7 @@
 use Rattle.std.specs.Prelude.{ℕ, Option, Result}
 use Rattle.http_messages.specs.declared.serving.ServeFault.{ServeFault}
 use Rattle.http_messages.specs.declared.serving.Served.{Served}
-use Rattle.exit_lines.specs.Ends.{IsTold}
+use Rattle.exit_lines.specs.Ends.{IsReported}
 use Rattle.exit_lines.specs.Streams.{Stream, Streams}
 use Rattle.sample_service.specs.Serving.{IsSampleServed}
 use Rattle.store_rows.specs.Status.{Status}
@@ -13,4 +13,4 @@ pub record IsSampleEnd {S : Type 0} (stands : S → Status) (moment : ℕ) (old 
   pub left : Option S
   pub result : Result Served ServeFault
   pub served : IsSampleServed stands moment old new left result
-  pub told : IsTold result errors_old errors_new status
+  pub stated : IsReported result errors_old errors_new status

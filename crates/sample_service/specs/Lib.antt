@@ -1,3 +1,5 @@
+pub mod Answered
 pub mod Ends
 pub mod Serving
 pub mod Stores
+pub mod Tables

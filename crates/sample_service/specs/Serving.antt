@@ -2,7 +2,7 @@
 use Rattle.std.specs.Prelude.{◌≡◌, ℕ, Option, Some, None, Result, Err}
 use Rattle.bank_books.specs.WorldLists.{WorldLists}
 use Rattle.bank_meaning.specs.Sums.{PassesChecks}
-use Rattle.counter_service.specs.Serving.{IsServedBehindCache, IsServedOver}
+use Rattle.counter_service.specs.Serving.{IsServedWithCache, IsServedOver}
 use Rattle.exit_lines.specs.Streams.{Streams}
 use Rattle.http_messages.specs.declared.serving.ServeFault.{ServeFault}
 use Rattle.http_messages.specs.declared.serving.ServeFault.TheVariants.{Memory}
@@ -26,7 +26,7 @@ module _ {S : Type 0} (status : S → Status) where
   IsSampleServed moment old new None result = (result ≡ Err Memory) × (new ≡ old)
 
   -- the same with a cache in front, which is gone after that
-  abbrev pub IsSampleServedBehindCache : ℕ → Streams → Streams → Option S → Result Served ServeFault → Type 0
-  IsSampleServedBehindCache moment old new (Some left) result =
-      (opened : S) × IsOpening opened × IsServedBehindCache status badge_user opened moment old new left result
-  IsSampleServedBehindCache moment old new None result = (result ≡ Err Memory) × (new ≡ old)
+  abbrev pub IsSampleServedWithCache : ℕ → Streams → Streams → Option S → Result Served ServeFault → Type 0
+  IsSampleServedWithCache moment old new (Some left) result =
+      (opened : S) × IsOpening opened × IsServedWithCache status badge_user opened moment old new left result
+  IsSampleServedWithCache moment old new None result = (result ≡ Err Memory) × (new ≡ old)

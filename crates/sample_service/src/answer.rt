@@ -6,9 +6,9 @@ ghost use Rattle.exit_lines.specs.Streams.{stream_at, streams_at};
 ghost use Rattle.sample_service.specs.Ends.{IsSampleEnd};
 ghost use Rattle.sample_service.specs.Serving.{IsOpening};
 
-use crate::service::{serve_sample, serve_sample_behind_cache};
+use crate::service::{serve_sample, serve_sample_with_cache};
 use counter_service::Moment;
-use exit_lines::tell_end;
+use exit_lines::report_end;
 use money::Tallied;
 use std::alloc::{AllocError, Global};
 use std::io::{Read, Write};
@@ -31,11 +31,11 @@ pub fn answer_sample<S: Store + Drop, R: Read, W: Write, E: Write>(
         (stream_at E.contents errors.old) (stream_at E.contents errors.new) result }
 {
     let (_, served) = serve_sample(alloc, store, moment, input, output);
-    tell_end(errors, served)
+    report_end(errors, served)
 }
 
 /// Serves a stream as `answer_sample` does, with a cache of the rows of its policy before the store.
-pub fn answer_behind_cache<S: Store + Drop, R: Read, W: Write, E: Write>(
+pub fn answer_with_cache<S: Store + Drop, R: Read, W: Write, E: Write>(
     alloc: Global,
     store: Result<S, AllocError>,
     moment: Moment,
@@ -49,6 +49,6 @@ pub fn answer_behind_cache<S: Store + Drop, R: Read, W: Write, E: Write>(
         (streams_at R.remaining W.contents input.new output.new)
         (stream_at E.contents errors.old) (stream_at E.contents errors.new) result }
 {
-    let (_, served) = serve_sample_behind_cache(alloc, store, moment, input, output);
-    tell_end(errors, served)
+    let (_, served) = serve_sample_with_cache(alloc, store, moment, input, output);
+    report_end(errors, served)
 }

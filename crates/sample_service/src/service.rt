@@ -2,11 +2,11 @@
 
 ghost use Rattle.std.specs.Prelude.{◌≡◌, ◌≤◌, IfOk, Err};
 ghost use Rattle.counter_service.specs.Serving.{most_messages};
-ghost use Rattle.sample_service.specs.Serving.{IsOpening, IsSampleServed, IsSampleServedBehindCache};
+ghost use Rattle.sample_service.specs.Serving.{IsOpening, IsSampleServed, IsSampleServedWithCache};
 ghost use Rattle.exit_lines.specs.Streams.{streams_at};
 
 use crate::badges::SampleBadges;
-use counter_service::{Moment, ServeFault, Served, serve_behind_cache, serve_stream};
+use counter_service::{Asking, Moment, ServeFault, Served, serve_stream, serve_with_cache};
 use money::Tallied;
 use std::alloc::{AllocError, Global};
 use std::io::{Read, Write};
@@ -31,13 +31,17 @@ pub fn serve_sample<S: Store, R: Read, W: Write>(
     let Ok(store) = store else {
         return (None, Err(ServeFault::Memory));
     };
-    let (left, served) = serve_stream(alloc, store, &SampleBadges, moment, input, output);
+    let asking = Asking {
+        gate: SampleBadges,
+        moments: moment,
+    };
+    let (left, served) = serve_stream(alloc, store, asking, input, output);
     (Some(left), served)
 }
 
 /// Serves a stream as `serve_sample` does, with a cache of the rows of its policy before the store, and hands back the
 /// store without it.
-pub fn serve_sample_behind_cache<S: Store, R: Read, W: Write>(
+pub fn serve_sample_with_cache<S: Store, R: Read, W: Write>(
     alloc: Global,
     store: Result<S, AllocError>,
     moment: Moment,
@@ -45,7 +49,7 @@ pub fn serve_sample_behind_cache<S: Store, R: Read, W: Write>(
     output: &mut Tallied<W>,
 ) -> (Option<S>, Result<Served, ServeFault>)
     requires opened { IfOk store (IsOpening S.status) }
-    ensures served { IsSampleServedBehindCache S.status moment
+    ensures served { IsSampleServedWithCache S.status moment
         (streams_at R.remaining W.contents input.old output.old)
         (streams_at R.remaining W.contents input.new output.new) result.0 result.1 }
     ensures memory { result.1 ≡ Err ServeFault.Memory → (input.new ≡ input.old) × (output.new ≡ output.old) }
@@ -54,6 +58,10 @@ pub fn serve_sample_behind_cache<S: Store, R: Read, W: Write>(
     let Ok(store) = store else {
         return (None, Err(ServeFault::Memory));
     };
-    let (left, served) = serve_behind_cache(alloc, store, &SampleBadges, moment, input, output);
+    let asking = Asking {
+        gate: SampleBadges,
+        moments: moment,
+    };
+    let (left, served) = serve_with_cache(alloc, store, asking, input, output);
     (Some(left), served)
 }

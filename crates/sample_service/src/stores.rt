@@ -24,7 +24,7 @@ pub fn listed_sample(alloc: Global) -> Result<ListStore, AllocError>
     Ok(ListStore::new(world))
 }
 
-/// Makes both checks of a World, and goes through where it passes them.
+/// Makes both checks of a World, and passes if the World passes them.
 fn require_checks(alloc: Global, world: &World) -> Result<(), AllocError>
     ensures { OnOk result (PassesChecks world.now) }
 {

@@ -17,7 +17,7 @@ use Rattle.bank_books.specs.WorldLists.{WorldLists}
 use Rattle.book_kept.specs.Keepable.{IsOrdered}
 use Rattle.book_kept.specs.Laws.{AreSheetsOrdered}
 use Rattle.book_kept.specs.Sheets.{Sheets, slip_no}
-use Rattle.book_kept.proofs.SheetsTell.{sheets_are_ordered}
+use Rattle.book_kept.proofs.SheetsDetermine.{sheets_are_ordered}
 use Rattle.store_sql.proofs.WorldLemmas.{same_world, same_world_in}
 use Rattle.sql_whole.specs.BookRows.{AreBookRows}
 use Rattle.sql_whole.specs.PolicyTables.{ArePolicyTables}
@@ -26,7 +26,7 @@ use Rattle.sql_whole.specs.Whole.{IsKeptTable}
 use Rattle.sql_whole.specs.declared.book_rows.BookRows.{BookRows}
 use Rattle.sql_whole.specs.declared.policy_tables.PolicyTables.{PolicyTables}
 use Rattle.sql_adopt.specs.Adopted.{Adopts, Finds, IsBankFile, IsBankRow, IsLeft}
-use Rattle.sql_adopt.specs.Told.{AreBankOf, sheets_read}
+use Rattle.sql_adopt.specs.ReadBack.{AreBankOf, sheets_read}
 use Rattle.sql_adopt.specs.declared.bank_rows.BankRows.{BankRows}
 
 held_slips : (e : Edition) (db : Trees) (rows : List SlipRow) → AreSlips e db rows → IsOrdered slip_key rows → (IsIn e in_slips → IsKeptTable (db 25)) → HoldsSlipsIn e rows (db 25)

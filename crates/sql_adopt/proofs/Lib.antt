@@ -12,5 +12,5 @@ pub mod SchemaLemmas
 pub mod SetLemmas
 pub mod SoundLemmas
 pub mod TakenLemmas
-pub mod ToldLemmas
+pub mod ReadLemmas
 pub mod UnreadLemmas

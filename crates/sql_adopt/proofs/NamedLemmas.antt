@@ -23,7 +23,7 @@ use Rattle.policy_check.specs.PolicyVerdict.{IsPolicyVerdict}
 use Rattle.sql_whole.specs.declared.book_rows.BookRows.{BookRows}
 use Rattle.sql_whole.specs.declared.policy_tables.PolicyTables.{PolicyTables}
 use Rattle.sql_adopt.specs.Refused.{IsNamedBy, IsOfBooks, IsOfNoPolicy, IsOfPolicy, IsOfStore}
-use Rattle.sql_adopt.specs.Told.{AreBooksInOrder, AreBooksJudged, AreUsersOrdered, IsPolicyIn, IsPolicyOf, kept_read, sheets_read, world_read}
+use Rattle.sql_adopt.specs.ReadBack.{AreBooksInOrder, AreBooksJudged, AreUsersOrdered, IsPolicyIn, IsPolicyOf, kept_read, sheets_read, world_read}
 use Rattle.sql_adopt.specs.declared.adopt_fault.AdoptFault.{AdoptFault}
 use Rattle.sql_adopt.specs.declared.adopt_fault.AdoptFault.TheVariants.{Books, Fault, NotABank, Policy, Version}
 
@@ -53,18 +53,18 @@ module _ (books : BookRows) (tables : PolicyTables) (version : ℕ) where
     judged w kept world numbers verdict = record {
       policy = policy;
       users = users;
-      told = subst (λ k. IsVerdict (world_read books policy version) k (Ok tt)) numbers (subst (λ z. IsVerdict z kept (Ok tt)) world verdict);
+      stated = subst (λ k. IsVerdict (world_read books policy version) k (Ok tt)) numbers (subst (λ z. IsVerdict z kept (Ok tt)) world verdict);
     }
 
     pub named_of_books : (fault : AdoptFault) → IsOfBooks (world_read books policy version) (kept_read books) fault → IsNamedBy s fault
-    named_of_books (Books fault) of = record { policy = policy; users = users; told = of }
+    named_of_books (Books fault) of = record { policy = policy; users = users; stated = of }
     named_of_books (Policy fault) of = absurd of
     named_of_books (Fault fault) of = tt
     named_of_books NotABank of = of
     named_of_books Version of = of
 
     pub alone_of_books : (fault : AdoptFault) → IsOfBooks (world_read books policy version) (kept_read books) fault → IsOfNoPolicy s fault
-    alone_of_books (Books fault) of = record { policy = policy; users = users; told = of }
+    alone_of_books (Books fault) of = record { policy = policy; users = users; stated = of }
     alone_of_books (Policy fault) of = absurd of
     alone_of_books (Fault fault) of = tt
     alone_of_books NotABank of = of
@@ -95,7 +95,7 @@ module _ (books : BookRows) (tables : PolicyTables) (version : ℕ) where
   named_of_policy (Ok x) policy hold there one of = tt
   named_of_policy (Err (Policy fault)) policy hold there one of = record {
     books = hold;
-    told = λ other is can. subst (λ p. IsPolicyVerdict p (Err fault)) (sym (one other is can)) of;
+    stated = λ other is can. subst (λ p. IsPolicyVerdict p (Err fault)) (sym (one other is can)) of;
     untold = λ none. absurd (none policy there);
   }
   named_of_policy (Err (Books fault)) policy hold there one of = absurd of
@@ -105,7 +105,7 @@ module _ (books : BookRows) (tables : PolicyTables) (version : ℕ) where
 
   pub named_of_none : (fault : AdoptFault) → ((other : PolicyLists) → IsPolicyIn s other → IsPolicyKeepable other → ⊥) → IsOfNoPolicy s fault → IsNamedBy s fault
   named_of_none (Books fault) none of = of
-  named_of_none (Policy fault) none of = record { books = of.0; told = λ other is can. absurd (none other is can); untold = λ no. of.1 }
+  named_of_none (Policy fault) none of = record { books = of.0; stated = λ other is can. absurd (none other is can); untold = λ no. of.1 }
   named_of_none (Fault fault) none of = tt
   named_of_none NotABank none of = of
   named_of_none Version none of = of

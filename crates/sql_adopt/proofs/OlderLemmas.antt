@@ -1,5 +1,5 @@
 -- A bank that is read in the schema version which its row names.
-use Rattle.std.proofs.Common.{◌≡◌, ◌≢◌, ◌∙◌, ℕ, ℤ, pos, [], ◌∷◌, Ok, Err, IfErr, IfOk, IsErrAnd, IsTrue, OnOk, Option, Some, Result, refl, sym, ap, ap₂, subst}
+use Rattle.std.proofs.Common.{◌≡◌, ◌≢◌, ◌∙◌, ℕ, ℤ, pos, [], ◌∷◌, Ok, Err, IfOk, OnOk, Option, Some, Result, refl, sym, ap₂, subst}
 use Rattle.sqlite.specs.State.{HasCleanDisk, IsUnchanged, KeepsCommit, State}
 use Rattle.sqlite.specs.Tree.{Trees}
 use Rattle.sql_schema.specs.Cells.{edition_number}
@@ -13,7 +13,7 @@ use Rattle.sql_whole.proofs.ReadsLemmas.{Done, still_bank}
 use Rattle.sql_schema.proofs.StepLemmas.{early, kept_then}
 use Rattle.sql_schema.specs.Steps.{LeavesNone}
 use Rattle.sqlite.specs.Effect.{Database}
-use Rattle.sql_adopt.specs.Adopted.{IsBankNumber, IsBankRow}
+use Rattle.sql_adopt.specs.Adopted.{IsBankRow}
 use Rattle.sql_adopt.specs.Older.{BearsNoOther, IsNoBank, IsOlderRow, NamesOlder}
 use Rattle.sql_adopt.specs.Refused.{IsRefusedIn}
 use Rattle.sql_adopt.specs.declared.adopt_fault.AdoptFault.{AdoptFault}
@@ -49,7 +49,7 @@ not_newest Second older db version found row is table there number = absurd (let
 not_newest Third older db version found row is table there number = older refl
 
 pub no_bank : (e : Edition) (db : Trees) (fault : AdoptFault) → IsNoBank db fault → IsRefusedIn e db fault
-no_bank e db fault is = subst (IsRefusedIn e db) (sym is.told) is.none
+no_bank e db fault is = subst (IsRefusedIn e db) (sym is.stated) is.none
 
 -- so a row of none of the older ones is of none of them
 pub no_older : (e : Edition) → e ≢ newest → (version : ℤ) → version ≡ pos (edition_number e) → version ≢ pos 1 → version ≢ pos 2 → ⊥

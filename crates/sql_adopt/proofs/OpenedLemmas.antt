@@ -1,8 +1,7 @@
 -- What a connection that opens over the trees of a World holds.
-use Rattle.std.proofs.Common.{◌≡◌, refl, sym, ap, subst}
+use Rattle.std.proofs.Common.{◌≡◌, refl, sym, subst}
 use Rattle.sqlite.specs.Effect.{Database}
 use Rattle.sqlite.specs.State.{IsLive, Opens, State}
-use Rattle.sqlite_schema.specs.declared.schema.Schema.{Schema}
 use Rattle.bank_books.specs.WorldLists.{WorldLists}
 use Rattle.sql_schema.specs.Held.{AreOfWorld, AreOfWorldIn, HoldsBank}
 use Rattle.sql_schema.specs.Schema.{newest, schema_of}

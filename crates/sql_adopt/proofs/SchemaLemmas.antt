@@ -1,5 +1,5 @@
 -- One list of objects is that of one schema.
-use Rattle.std.proofs.Common.{◌≡◌, ◌≢◌, ◌∙◌, ◌+◌, ◌<◌, ℕ, pos, List, [], ◌∷◌, Some, Ok, Bool, true, false, filter, refl, sym, ap, subst, arith, Result}
+use Rattle.std.proofs.Common.{◌≡◌, ◌∙◌, ◌+◌, ℕ, pos, List, [], ◌∷◌, Some, Ok, true, false, filter, refl, sym, ap, subst, arith, Result}
 use Rattle.std.specs.Prelude.{slice_get}
 use Rattle.std.specs.List.{AllZip}
 use Rattle.sqlite_value.specs.declared.value.Value.{Value}
@@ -11,7 +11,6 @@ use Rattle.sqlite_schema.specs.declared.schema.Index.{Index}
 use Rattle.sqlite_schema.specs.declared.schema.Schema.{Schema}
 use Rattle.sqlite_schema.specs.declared.schema.Table.{Table}
 use Rattle.sqlite_schema.specs.Names.{same_name}
-use Rattle.sqlite_rules.specs.Lists.{Has}
 use Rattle.sqlite_resolve.specs.Compile.{index_defined_by, table_defined_by}
 use Rattle.sqlite_catalog.specs.Listing.{AreListed, IsDefined, IsIndexRow, IsSound, IsTableRow, IsViewRow, automatic, is_index_row, is_table_row, is_view_row}
 use Rattle.sqlite_catalog.proofs.AlterLemmas.{numbers_differ}

@@ -25,7 +25,7 @@ use Rattle.sql_adopt.proofs.CountLemmas.{counts_there}
 use Rattle.sql_adopt.specs.Refused.{IsOfBooks, IsOfPolicy, IsOfStore}
 use Rattle.sql_adopt.specs.declared.adopt_fault.AdoptFault.{AdoptFault}
 use Rattle.sql_adopt.specs.declared.adopt_fault.AdoptFault.TheVariants as adopt_fault
-use Rattle.sql_adopt.specs.Told.{AreBooksInOrder, IsBankOf, IsPolicyOf, counts_told, kept_read, sheets_read, teller_told, world_read}
+use Rattle.sql_adopt.specs.ReadBack.{AreBooksInOrder, IsBankOf, IsPolicyOf, counts_read_back, kept_read, sheets_read, teller_read, world_read}
 
 -- ---- verdicts
 
@@ -75,12 +75,12 @@ books_in_order books policy version can = record {
 
 -- ---- the teller that its kept row gives
 
-holder_told : (holder : Option ℕ) → holder ≢ Some 0 → (if unwrap_or holder 0 == 0 then None else Some (unwrap_or holder 0)) ≡ holder
-holder_told None some = refl
-holder_told (Some n) some = ap (λ b. if b then None else Some n) (ne_eqb n 0 (λ none. some (ap Some none)))
+holder_read : (holder : Option ℕ) → holder ≢ Some 0 → (if unwrap_or holder 0 == 0 then None else Some (unwrap_or holder 0)) ≡ holder
+holder_read None some = refl
+holder_read (Some n) some = ap (λ b. if b then None else Some n) (ne_eqb n 0 (λ none. some (ap Some none)))
 
-teller_there : (t : TellerRecord) → t.holder ≢ Some 0 → teller_told (kept_teller t) ≡ t
-teller_there t some = ap (λ h. record t { holder = h }) (holder_told t.holder some)
+teller_there : (t : TellerRecord) → t.holder ≢ Some 0 → teller_read (kept_teller t) ≡ t
+teller_there t some = ap (λ h. record t { holder = h }) (holder_read t.holder some)
 
 -- ---- what the rows of a bank give
 
@@ -129,12 +129,12 @@ module _ (books : BookRows) (tables : PolicyTables) (version : ℕ) (bank : IsBa
       let s = sym bank.sheets in
       let branches = ap (λ (z : Sheets). z.branches) s in
       let tellers =
-      ap (map teller_told) (ap (λ (z : Sheets). z.tellers) s) ∙ map-map (kept_teller_of w) teller_told w.tellers
-      ∙ map_same (λ t. teller_told (kept_teller_of w t)) (teller_record_of w) w.tellers (λ t there. teller_there (teller_record_of w t) (bank.keepable.tellers.holders t there))
+      ap (map teller_read) (ap (λ (z : Sheets). z.tellers) s) ∙ map-map (kept_teller_of w) teller_read w.tellers
+      ∙ map_same (λ t. teller_read (kept_teller_of w t)) (teller_record_of w) w.tellers (λ t there. teller_there (teller_record_of w t) (bank.keepable.tellers.holders t there))
       in
       let accounts = ap (λ (z : Sheets). z.accounts) s in
       let entries = ap (λ (z : Sheets). z.entries) s in
-      let users = (λ i. counts_told (ap (λ (z : Sheets). z.slip_counts) s i) (ap (λ (z : Sheets). z.users) s i)) ∙ counts_there w w.policy.users in
+      let users = (λ i. counts_read_back (ap (λ (z : Sheets). z.slip_counts) s i) (ap (λ (z : Sheets). z.users) s i)) ∙ counts_there w w.policy.users in
       λ i. record { branches = branches i; tellers = tellers i; accounts = accounts i; entries = entries i; users = users i }
 
   -- what was read with this policy, which is that of the bank
@@ -142,14 +142,14 @@ module _ (books : BookRows) (tables : PolicyTables) (version : ℕ) (bank : IsBa
     same_policy : bank.world.policy ≡ policy
     same_policy = same_Some bank.world.policy policy (sym right ∙ is)
 
-    world_told : bank.world ≡ world_read books policy version
-    world_told = sym world_is ∙ ap (λ p. world_read books p version) same_policy
+    world_read_back : bank.world ≡ world_read books policy version
+    world_read_back = sym world_is ∙ ap (λ p. world_read books p version) same_policy
 
-    pub keepable_told : IsKeepable (world_read books policy version)
-    keepable_told = subst IsKeepable world_told bank.keepable
+    pub keepable_read : IsKeepable (world_read books policy version)
+    keepable_read = subst IsKeepable world_read_back bank.keepable
 
-    pub verdict_told : IsVerdict (world_read books policy version) (kept_read books) (Ok tt)
-    verdict_told = subst (λ kept. IsVerdict (world_read books policy version) kept (Ok tt)) (sym kept_is) (subst (λ w. IsVerdict w (kept_of bank.world) (Ok tt)) world_told (bank.books, refl))
+    pub verdict_reported : IsVerdict (world_read books policy version) (kept_read books) (Ok tt)
+    verdict_reported = subst (λ kept. IsVerdict (world_read books policy version) kept (Ok tt)) (sym kept_is) (subst (λ w. IsVerdict w (kept_of bank.world) (Ok tt)) world_read_back (bank.books, refl))
 
-    pub policy_told : (w : WorldLists) → w ≡ world_read books policy version → IsPolicyVerdict w.policy (Ok tt)
-    policy_told w read = subst (λ (z : WorldLists). IsPolicyVerdict z.policy (Ok tt)) (world_told ∙ sym read) bank.policy
+    pub policy_read_back : (w : WorldLists) → w ≡ world_read books policy version → IsPolicyVerdict w.policy (Ok tt)
+    policy_read_back w read = subst (λ (z : WorldLists). IsPolicyVerdict z.policy (Ok tt)) (world_read_back ∙ sym read) bank.policy

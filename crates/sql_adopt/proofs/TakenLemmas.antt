@@ -29,7 +29,7 @@ use Rattle.sql_adopt.specs.Adopted.{IsBankNumber, IsBankRow}
 use Rattle.sql_adopt.specs.Refused.{IsOfOther, IsOfStore, IsRefusedIn}
 use Rattle.sql_adopt.specs.declared.adopt_fault.AdoptFault.TheVariants.{Books, Fault, NotABank, Policy, Version}
 use Rattle.std.proofs.lemmas.Option.{same_Some}
-use Rattle.sql_adopt.specs.Told.{sheets_read}
+use Rattle.sql_adopt.specs.ReadBack.{sheets_read}
 use Rattle.sql_adopt.specs.declared.adopt_fault.AdoptFault.{AdoptFault}
 
 -- ---- results
@@ -108,22 +108,22 @@ sheets_are_read e db s books tables version h row b p =
 pub same_number : (e edition : Edition) → pos (edition_number edition) ≡ pos (edition_number e) → edition_number e ≡ edition_number edition
 same_number e edition is = cc
 
-told_other : (e edition : Edition) (db : Trees) (version : ℕ) → IsBankRow e db version → edition_number e ≢ edition_number edition → (fault : AdoptFault) → IsRefusedIn edition db fault → IsOfOther fault
-told_other e edition db version row differs NotABank refused = absurd (refused (record { id = pos 1; version = pos (edition_number e); policy = pos version }) refl row)
-told_other e edition db version row differs Version refused = tt
-told_other e edition db version row differs (Books fault) refused = absurd (differs (same_number e edition (ap (number_in 2) (sym refused.row ∙ row))))
-told_other e edition db version row differs (Policy fault) refused = absurd (differs (same_number e edition (ap (number_in 2) (sym refused.row ∙ row))))
-told_other e edition db version row differs (Fault fault) refused = tt
+stated_other : (e edition : Edition) (db : Trees) (version : ℕ) → IsBankRow e db version → edition_number e ≢ edition_number edition → (fault : AdoptFault) → IsRefusedIn edition db fault → IsOfOther fault
+stated_other e edition db version row differs NotABank refused = absurd (refused (record { id = pos 1; version = pos (edition_number e); policy = pos version }) refl row)
+stated_other e edition db version row differs Version refused = tt
+stated_other e edition db version row differs (Books fault) refused = absurd (differs (same_number e edition (ap (number_in 2) (sym refused.row ∙ row))))
+stated_other e edition db version row differs (Policy fault) refused = absurd (differs (same_number e edition (ap (number_in 2) (sym refused.row ∙ row))))
+stated_other e edition db version row differs (Fault fault) refused = tt
 
 -- the row of one schema version is not taken for that of another
-pub other_told : (e edition : Edition) (db : Trees) (version : ℕ) (found : Option BankRow) (r : Result BankRow AdoptFault) → IsBankTable db found → IsBankRow e db version → edition_number e ≢ edition_number edition
+pub other_reported : (e edition : Edition) (db : Trees) (version : ℕ) (found : Option BankRow) (r : Result BankRow AdoptFault) → IsBankTable db found → IsBankRow e db version → edition_number e ≢ edition_number edition
     → IfOk r (λ row. (found ≡ Some row) × (row.id ≡ pos 1) × (row.version ≡ pos (edition_number edition))) → IfErr r (IsRefusedIn edition db) → IsErrAnd r IsOfOther
-other_told e edition db version found (Ok got) table row differs is refused =
+other_reported e edition db version found (Ok got) table row differs is refused =
     let there = first_found e db found version table row in
     let same : Some (record { id = pos 1; version = pos (edition_number e); policy = pos version }) ≡ Some got = sym there ∙ is.0 in
     let number : pos (edition_number e) ≡ got.version = ap (λ (b : BankRow). b.version) (same_Some _ _ same) in
     absurd (differs (same_number e edition (sym (number ∙ is.2))))
-other_told e edition db version found (Err fault) table row differs is refused = told_other e edition db version row differs fault refused
+other_reported e edition db version found (Err fault) table row differs is refused = stated_other e edition db version row differs fault refused
 
 pub store_other : (fault : AdoptFault) → IsOfStore fault → IsOfOther fault
 store_other NotABank store = absurd store

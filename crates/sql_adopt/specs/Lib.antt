@@ -1,5 +1,5 @@
 pub mod Adopted
 pub mod Older
 pub mod Refused
-pub mod Told
+pub mod ReadBack
 pub mod Unread

@@ -21,7 +21,7 @@ pub record NamesOlder (found : Option BankRow) (e : Edition) : Type 0 where
 
 -- the table of the bank has not the row of one
 pub record IsNoBank (db : Trees) (fault : AdoptFault) : Type 0 where
-  pub told : fault ≡ NotABank
+  pub stated : fault ≡ NotABank
   pub none : (b : BankRow) → b.id ≡ pos 1 → db 0 ≢ bank_row_cells b ∷ []
 
 -- the one row of the bank, of a schema version that is not the newest

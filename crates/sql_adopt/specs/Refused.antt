@@ -27,7 +27,7 @@ use Rattle.sql_whole.specs.declared.fault.ReadFault.{ReadFault}
 use Rattle.sql_whole.specs.declared.fault.ReadFault.TheVariants.{Missing}
 use Rattle.sql_adopt.specs.Adopted.{IsBankNumber, IsBankRow}
 use Rattle.sql_adopt.specs.declared.adopt_fault.AdoptFault.{AdoptFault}
-use Rattle.sql_adopt.specs.Told.{AreBooksJudged, IsPolicyIn}
+use Rattle.sql_adopt.specs.ReadBack.{AreBooksJudged, IsPolicyIn}
 use Rattle.sql_adopt.specs.Unread.{HasUnread, IsBesideBooks}
 use Rattle.sql_adopt.specs.declared.adopt_fault.AdoptFault.TheVariants.{Books, Fault, NotABank, Policy, Version}
 
@@ -140,7 +140,7 @@ IsOfNoPolicy s _ = ⊥
 -- The books of these rows hold, and it is the first fault of their policy, or that it dangles where they have none.
 pub record IsOfPolicyIn (s : Sheets) (fault : PolicyFault) : Type 0 where
   pub books : AreBooksJudged s (Ok tt)
-  pub told : (policy : PolicyLists) → IsPolicyIn s policy → IsPolicyKeepable policy → IsPolicyVerdict policy (Err fault)
+  pub stated : (policy : PolicyLists) → IsPolicyIn s policy → IsPolicyKeepable policy → IsPolicyVerdict policy (Err fault)
   pub untold : ((policy : PolicyLists) → IsPolicyIn s policy → ⊥) → fault ≡ Dangling
 
 -- Of rows that were read: the first fault of the books, or where these hold the first of the policy. A fault of the database may come at any

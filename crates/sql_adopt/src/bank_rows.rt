@@ -1,7 +1,7 @@
 //! The rows of the books and a policy put together: a World with the numbers that are kept beside its rows.
 
 ghost use Rattle.std.specs.Prelude.{◌≡◌, IfOk, IfSome, IsSome};
-ghost use Rattle.sql_adopt.specs.Told.{AreBooksInOrder, kept_read, world_read};
+ghost use Rattle.sql_adopt.specs.ReadBack.{AreBooksInOrder, kept_read, world_read};
 
 use crate::counts::counts_of;
 use crate::made::all_made;
@@ -61,9 +61,9 @@ pub(crate) fn bank_rows(
         releases,
         slips,
     };
-    let told = all_made(alloc, &tellers)?;
+    let stated = all_made(alloc, &tellers)?;
     let counts = counts_of(alloc, &counts, &users)?;
-    let kept = Kept::new(branches, told, accounts, entries, counts);
+    let kept = Kept::new(branches, stated, accounts, entries, counts);
     match World::from_lists(lists, policy, version) {
         Some(world) => Ok(Some(BankRows { world, kept })),
         None => Ok(None),

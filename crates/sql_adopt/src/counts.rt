@@ -1,7 +1,7 @@
 //! How many releases and slips each user has, from the rows of users and those of slip counts.
 
 ghost use Rattle.std.specs.Prelude.{◌≡◌, IfOk};
-ghost use Rattle.sql_adopt.specs.Told.{counts_told, releases_at};
+ghost use Rattle.sql_adopt.specs.ReadBack.{counts_read_back, releases_at};
 
 use bank_books::ReleaseCount;
 use book_kept::{KeptUser, SlipCount};
@@ -25,7 +25,7 @@ pub(crate) fn counts_of(
     counts: &[SlipCount],
     users: &[KeptUser],
 ) -> Result<Vec<ReleaseCount>, Fault>
-    ensures { IfOk result (λ list. list.items ≡ counts_told counts.now users.now) }
+    ensures { IfOk result (λ list. list.items ≡ counts_read_back counts.now users.now) }
 {
     let mut list = Vec::with_capacity(alloc, counts.len())?;
     for row in counts {

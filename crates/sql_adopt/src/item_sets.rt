@@ -7,7 +7,7 @@ ghost use Rattle.keyed_rows.specs.Ordered.{AreDistinct};
 ghost use Rattle.bank_policy.specs.SetRow.{SetRow};
 ghost use Rattle.bank_policy.specs.declared.rows.Member.{Member};
 ghost use Rattle.book_kept.specs.Records.{member_row};
-ghost use Rattle.sql_adopt.specs.Told.{AreInFront, AreSetsOf};
+ghost use Rattle.sql_adopt.specs.ReadBack.{AreInFront, AreSetsOf};
 
 use bank_policy::{ItemSet, Member};
 use book_kept::MemberRow;
@@ -22,13 +22,13 @@ pub(crate) fn item_sets(
     sets: &[u32],
     members: &[MemberRow],
 ) -> Result<Option<Vec<ItemSet>>, Fault>
-    ensures told { IfOk result (λ found. IfSome found (λ list. AreSetsOf sets.now members.now list.items)) }
+    ensures stated { IfOk result (λ found. IfSome found (λ list. AreSetsOf sets.now members.now list.items)) }
     ensures found { (own : List SetRow) → AreSetsOf sets.now members.now own → AreDistinct sets.now → IfOk result (λ found. IsSomeAnd found (λ list. list.items ≡ own)) }
 {
     let mut list = Vec::with_capacity(alloc, sets.len())?;
     let mut at = 0usize;
     for set in sets {
-        let rest = behind(members, at);
+        let rest = following(members, at);
         match own_members(alloc, *set, rest)? {
             Some(own) => {
                 at += own.len();
@@ -45,7 +45,7 @@ pub(crate) fn item_sets(
 }
 
 /// The rows from this place on.
-fn behind(members: &[MemberRow], at: usize) -> &[MemberRow]
+fn following(members: &[MemberRow], at: usize) -> &[MemberRow]
     requires { at ≤ length members.now }
     ensures { result.now ≡ drop at members.now }
 {
@@ -79,7 +79,7 @@ fn is_of(row: &MemberRow, set: u32) -> bool
 
 /// The member that this row has at that place of the set, or none where it is at another.
 fn placed(row: &MemberRow, set: u32, place: usize) -> Option<Member>
-    ensures told { IfSome result (λ member. row.now ≡ member_row set (place, member)) }
+    ensures stated { IfSome result (λ member. row.now ≡ member_row set (place, member)) }
     ensures found { (member : Member) → row.now ≡ member_row set (place, member) → result ≡ Some member }
 {
     if row.set == set && row.place as usize == place {

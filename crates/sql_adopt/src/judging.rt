@@ -15,7 +15,7 @@ ghost use Rattle.policy_check.specs.PolicyVerdict.{IsPolicyVerdict};
 ghost use Rattle.book_kept.specs.Keepable.{IsKeepable};
 ghost use Rattle.sql_schema.specs.declared.edition.Edition.{Edition};
 ghost use Rattle.sql_adopt.specs.Refused.{HoldsSoundBankIn, IsBeyondBankRow, IsNamedBy, IsOfBooks, IsOfBooksRead, IsOfNoPolicy, IsOfPolicy, IsOfStore, IsRefusedIn};
-ghost use Rattle.sql_adopt.specs.Told.{AreBankOf, AreBooksInOrder, AreUsersOrdered, IsBankOf, kept_read, sheets_read, world_read};
+ghost use Rattle.sql_adopt.specs.ReadBack.{AreBankOf, AreBooksInOrder, AreUsersOrdered, IsBankOf, kept_read, sheets_read, world_read};
 
 use crate::adopt_fault::AdoptFault;
 use crate::bank_rows::{BankRows, bank_rows};

@@ -49,9 +49,9 @@ impl MadeOf<KeptTeller> for Teller {
 }
 
 impl MadeOf<KeptTeller> for TellerRecord {
-    ghost use Rattle.sql_adopt.specs.Told.{teller_told};
+    ghost use Rattle.sql_adopt.specs.ReadBack.{teller_read};
 
-    ghost made = { teller_told };
+    ghost made = { teller_read };
 
     fn made_of(_alloc: Global, row: &KeptTeller) -> Result<TellerRecord, Fault> {
         Ok(TellerRecord {

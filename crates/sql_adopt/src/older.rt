@@ -12,7 +12,7 @@ ghost use Rattle.sql_schema.specs.Held.{HoldsSheetsIn};
 ghost use Rattle.sql_schema.specs.Readable.{AreReadable};
 ghost use Rattle.sql_schema.specs.Schema.{newest};
 ghost use Rattle.sql_schema.specs.declared.edition.Edition.{Edition as TheEdition};
-ghost use Rattle.sql_schema.specs.Steps.{LeavesNone, WasOpen};
+ghost use Rattle.sql_schema.specs.Steps.{IsReadOnly, LeavesNone};
 ghost use Rattle.book_kept.specs.Sheets.{Sheets};
 ghost use Rattle.sql_whole.specs.BankRow.{IsBankTable};
 ghost use Rattle.sql_whole.specs.Whole.{HasBankTables, OnReadable, Reads};
@@ -80,15 +80,14 @@ fn older_in(found: Option<BankRow>) -> Result<Edition, AdoptFault>
     Err(AdoptFault::Version)
 }
 
-fn told_edition<S: Alter>(conn: &mut Connection<S>) -> Result<Edition, AdoptFault>
+fn edition_read<S: Alter>(conn: &mut Connection<S>) -> Result<Edition, AdoptFault>
     ensures mode { conn.old.in_transaction ≡ false → conn.new.in_transaction ≡ false }
     ensures whole { (e : TheEdition) → Reads e (state S.Store conn.old) (state S.Store conn.new) IsOlderRow result }
     ensures older { IfOk result (λ edition. edition ≢ newest) }
     ensures refused { (e : TheEdition) → e ≢ newest → RefusesFor e (state S.Store conn.old) (state S.Store conn.new) result }
     ensures other { HasCleanDisk (state S.Store conn.new) → (e : TheEdition) → HasBankTables e (state S.Store conn.old) → (version : ℕ) → IsBankRow newest (state S.Store conn.old).now.trees version → IsErrAnd result IsOfOther }
     ensures takes { (e : TheEdition) → e ≢ newest → OnReadable e (state S.Store conn.old) (state S.Store conn.new) (IfErr result IsOfStore) }
-    ensures open { WasOpen (state S.Store conn.old) (state S.Store conn.new) result }
-    ensures survives { LeavesNone (state S.Store conn.old) (state S.Store conn.new) }
+    ensures read_only { IsReadOnly (state S.Store conn.old) (state S.Store conn.new) result }
 {
     match bank_row(conn) {
         Ok(found) => older_in(found),
@@ -107,10 +106,9 @@ fn all_older_rows<S: Alter>(
     ensures refused { (e : TheEdition) → e ≢ newest → BearsNoOther e (state S.Store conn.old).now.trees → RefusesFor e (state S.Store conn.old) (state S.Store conn.new) result }
     ensures other { HasCleanDisk (state S.Store conn.new) → (e : TheEdition) → HasBankTables e (state S.Store conn.old) → (version : ℕ) → IsBankRow newest (state S.Store conn.old).now.trees version → IsErrAnd result IsOfOther }
     ensures takes { (e : TheEdition) → e ≢ newest → BearsNoOther e (state S.Store conn.old).now.trees → OnReadable e (state S.Store conn.old) (state S.Store conn.new) (IfOk result (λ file. IsSome file.rows.policy) × IfErr result IsOfStore) }
-    ensures open { WasOpen (state S.Store conn.old) (state S.Store conn.new) result }
-    ensures survives { LeavesNone (state S.Store conn.old) (state S.Store conn.new) }
+    ensures read_only { IsReadOnly (state S.Store conn.old) (state S.Store conn.new) result }
 {
-    let edition = told_edition(conn)?;
+    let edition = edition_read(conn)?;
     let rows = all_rows(alloc, conn, edition)?;
     Ok(OlderRows { edition, rows })
 }

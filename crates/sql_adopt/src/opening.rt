@@ -11,6 +11,7 @@ ghost use Rattle.sql_schema.specs.declared.edition.Edition.{Edition};
 ghost use Rattle.book_kept.specs.Sheets.{Sheets};
 ghost use Rattle.sql_adopt.specs.Adopted.{Adopts, IsBankFileIn, IsLeft, IsOfAnother, OnFile};
 ghost use Rattle.sql_adopt.specs.Refused.{HoldsSoundBank, IsNamedBy, IsOfOther, IsOfStore, IsRefused};
+ghost use Rattle.store_sql.specs.Bank.{KnowsNothing};
 
 use crate::adopt_fault::AdoptFault;
 use crate::adopting::adopt_bank;
@@ -28,6 +29,7 @@ pub fn adopt<S: Alter>(
     ensures adopts { IfOk result (λ store. OnFile (state S.Store conn) (state S.Store store.conn) (Adopts (state S.Store conn) (state S.Store store.conn))) }
     ensures left { IfOk result (λ store. OnFile (state S.Store conn) (state S.Store store.conn) (IsLeft (state S.Store conn) (state S.Store store.conn))) }
     ensures works { IfOk result (λ store. (store.is_stopped ≡ false) × (store.faults ≡ 0) × (store.failures ≡ 0)) }
+    ensures known { IfOk result (λ store. KnowsNothing store.known) }
     ensures refused { IfErr result (λ e. OnFile (state S.Store conn) (state S.Store e.1) (IsRefused (state S.Store conn).now.trees e.0)) }
     ensures sound { IfErr result (λ e. OnFile (state S.Store conn) (state S.Store e.1) (HoldsSoundBank (state S.Store conn).now → IsOfStore e.0)) }
     ensures named { IfErr result (λ e. OnFile (state S.Store conn) (state S.Store e.1) ((s : Sheets) → HoldsSheets (state S.Store conn).now.trees s → AreReadable s → IsNamedBy s e.0)) }

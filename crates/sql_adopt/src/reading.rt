@@ -8,7 +8,7 @@ ghost use Rattle.sqlite.specs.Tree.{Trees};
 ghost use Rattle.sql_schema.specs.Cells.{edition_number};
 ghost use Rattle.sql_schema.specs.Held.{HoldsSheetsIn};
 ghost use Rattle.sql_schema.specs.Readable.{AreReadable};
-ghost use Rattle.sql_schema.specs.Steps.{LeavesNone, WasOpen};
+ghost use Rattle.sql_schema.specs.Steps.{IsReadOnly, LeavesNone};
 ghost use Rattle.book_kept.specs.Sheets.{Sheets};
 ghost use Rattle.sql_whole.specs.PolicyTables.{ArePolicyTables};
 ghost use Rattle.sql_whole.specs.BookRows.{AreBookRows};
@@ -57,14 +57,13 @@ fn row_of_edition(found: Option<BankRow>, edition: Edition) -> Result<BankRow, A
     }
 }
 
-fn told_row<S: Alter>(conn: &mut Connection<S>, edition: Edition) -> Result<BankRow, AdoptFault>
+fn stated_row<S: Alter>(conn: &mut Connection<S>, edition: Edition) -> Result<BankRow, AdoptFault>
     ensures mode { conn.old.in_transaction ≡ false → conn.new.in_transaction ≡ false }
     ensures whole { Reads edition (state S.Store conn.old) (state S.Store conn.new) (λ trees row. IsBankNumber edition trees row.policy) result }
     ensures refused { RefusesFor edition (state S.Store conn.old) (state S.Store conn.new) result }
     ensures other { TellsOther edition (state S.Store conn.old) (state S.Store conn.new) result }
     ensures takes { OnReadable edition (state S.Store conn.old) (state S.Store conn.new) (IfErr result IsOfStore) }
-    ensures open { WasOpen (state S.Store conn.old) (state S.Store conn.new) result }
-    ensures survives { LeavesNone (state S.Store conn.old) (state S.Store conn.new) }
+    ensures read_only { IsReadOnly (state S.Store conn.old) (state S.Store conn.new) result }
 {
     match bank_row(conn) {
         Ok(found) => row_of_edition(found, edition),
@@ -92,10 +91,9 @@ fn bank_version<S: Alter>(conn: &mut Connection<S>, edition: Edition) -> Result<
     ensures refused { RefusesFor edition (state S.Store conn.old) (state S.Store conn.new) result }
     ensures other { TellsOther edition (state S.Store conn.old) (state S.Store conn.new) result }
     ensures takes { OnReadable edition (state S.Store conn.old) (state S.Store conn.new) (IfErr result IsOfStore) }
-    ensures open { WasOpen (state S.Store conn.old) (state S.Store conn.new) result }
-    ensures survives { LeavesNone (state S.Store conn.old) (state S.Store conn.new) }
+    ensures read_only { IsReadOnly (state S.Store conn.old) (state S.Store conn.new) result }
 {
-    let row = told_row(conn, edition)?;
+    let row = stated_row(conn, edition)?;
     match ask_tables(conn, edition) {
         Ok(()) => version_in(&row),
         Err(fault) => Err(table_unread(fault)),
@@ -151,8 +149,7 @@ pub(crate) fn all_rows<S: Alter>(
     ensures refused { RefusesFor edition (state S.Store conn.old) (state S.Store conn.new) result }
     ensures other { TellsOther edition (state S.Store conn.old) (state S.Store conn.new) result }
     ensures takes { OnReadable edition (state S.Store conn.old) (state S.Store conn.new) (IfOk result (λ rows. IsSome rows.policy) × IfErr result IsOfStore) }
-    ensures open { WasOpen (state S.Store conn.old) (state S.Store conn.new) result }
-    ensures survives { LeavesNone (state S.Store conn.old) (state S.Store conn.new) }
+    ensures read_only { IsReadOnly (state S.Store conn.old) (state S.Store conn.new) result }
 {
     let version = bank_version(conn, edition)?;
     let books = book_rows(alloc, conn, edition)?;

@@ -3,7 +3,7 @@
 ghost use Rattle.std.specs.Prelude.{◌≡◌, ◌↔◌, map, IfOk, IfSome, IsSome, IsTrue, Some};
 ghost use Rattle.bank_policy.specs.Policy.{PolicyLists};
 ghost use Rattle.book_kept.specs.Keepable.{IsPolicyKeepable};
-ghost use Rattle.sql_adopt.specs.Told.{AreGrantsInOrder, AreUsersOrdered, IsPolicyOf, policy_told};
+ghost use Rattle.sql_adopt.specs.ReadBack.{AreGrantsInOrder, AreUsersOrdered, IsPolicyOf, policy_read_back};
 
 use crate::item_sets::item_sets;
 use crate::made::all_made;
@@ -21,7 +21,7 @@ pub(crate) fn whole_policy(
     users: &[KeptUser],
     tables: PolicyTables,
 ) -> Result<Option<Policy>, Fault>
-    ensures told { IfOk result (λ found. IfSome found (IsPolicyOf users.now tables)) }
+    ensures stated { IfOk result (λ found. IfSome found (IsPolicyOf users.now tables)) }
     ensures found { (policy : PolicyLists) → IsPolicyOf users.now tables policy → IsPolicyKeepable policy → IfOk result (λ found. found ≡ Some policy) }
 {
     match item_sets(alloc, &tables.sets.sets, &tables.sets.members)? {
@@ -37,8 +37,8 @@ fn policy_with(
     sets: Vec<ItemSet>,
     grants: GrantRows,
 ) -> Result<Option<Policy>, Fault>
-    ensures told { IfOk result (λ found. IfSome found (λ policy. policy ≡ policy_told users.now sets.items grants)) }
-    ensures found { IsPolicyKeepable (policy_told users.now sets.items grants) → IfOk result IsSome }
+    ensures stated { IfOk result (λ found. IfSome found (λ policy. policy ≡ policy_read_back users.now sets.items grants)) }
+    ensures found { IsPolicyKeepable (policy_read_back users.now sets.items grants) → IfOk result IsSome }
 {
     let users = all_made(alloc, users)?;
     if are_in_order(&users) && are_in_order(&sets) && are_grants_in_order(&grants) {
@@ -65,7 +65,7 @@ fn are_grants_in_order(grants: &GrantRows) -> bool
 
 /// A policy of these users and no more, or none where they do not stand in order.
 pub(crate) fn users_alone(alloc: Global, users: &[KeptUser]) -> Result<Option<Policy>, Fault>
-    ensures told { IfOk result (λ found. IfSome found (λ policy. policy.users ≡ map (λ u. u.row) users.now)) }
+    ensures stated { IfOk result (λ found. IfSome found (λ policy. policy.users ≡ map (λ u. u.row) users.now)) }
     ensures found { AreUsersOrdered users.now → IfOk result IsSome }
 {
     let none = GrantRows {

@@ -1,34 +1,20 @@
 -- What the statements on the row of the bank do.
 use Rattle.std.proofs.Common.{◌≡◌, ℕ, pos, List, Some, slice_get, [], ◌∷◌, map, drop, codes, true, false, Ok, refl, ap, arith, sym, ◌∙◌, subst}
 use Rattle.std.proofs.lemmas.List.Sorted.{IsNonDecreasingBy-short, IsPermutation-refl}
-use Rattle.sqlite.specs.declared.types.Value.TheVariants.{Null, Int}
 use Rattle.sqlite.specs.Collation.TheVariants.{Binary}
-use Rattle.sqlite.specs.Command.TheVariants.{Select, Update}
-use Rattle.sqlite.specs.Listing.{understood, reads_listing}
-use Rattle.sqlite.specs.Order.{Row}
-use Rattle.sqlite.specs.State.{Executes, Shown, State}
-use Rattle.sqlite.specs.Term.{Term, col, lit, op2}
-use Rattle.sqlite.specs.Query.{output}
-use Rattle.sqlite.proofs.Callers.{IsPlain, command_of, one_permutation}
-use Rattle.sqlite_rules.specs.Cast.{cast_row}
-use Rattle.sqlite_rules.specs.Edit.{id_in}
+use Rattle.sqlite.specs.Listing.{understood}
+use Rattle.sqlite.specs.Term.{op2}
+use Rattle.sqlite.proofs.Callers.{one_permutation}
 use Rattle.sqlite_sql.specs.declared.ops.BinaryOp.TheVariants.{Compare}
 use Rattle.sqlite_sql.specs.declared.ops.CompareOp.TheVariants.{Eq}
 use Rattle.sqlite_tied.specs.Compute.{everything}
-use Rattle.sqlite_trees.specs.Tree.{rowid}
 use Rattle.sqlite_value.specs.Order.{column}
-use Rattle.book_kept.specs.Sheets.{Sheets}
-use Rattle.sql_schema.specs.Cells.{AnyRow, bank_cells}
-use Rattle.sql_schema.specs.Held.{HoldsTables}
+use Rattle.sql_schema.specs.Cells.{bank_cells}
 use Rattle.sql_schema.specs.Held.Sheet.{bank as in_bank}
-use Rattle.sql_schema.specs.HeldRows.{HoldsRows, all_of_it}
-use Rattle.sql_schema.specs.Schema.{bank_schema, bank_table}
-use Rattle.sql_schema.proofs.ActionLemmas.{nothing_set_off}
+use Rattle.sql_schema.specs.HeldRows.{HoldsRows}
+use Rattle.sql_schema.specs.Schema.{bank_table}
 use Rattle.sql_schema.proofs.FrameLemmas.{with_version}
-use Rattle.sql_schema.proofs.PickLemmas.{pick, sets_row}
-use Rattle.sql_schema.proofs.ReadLemmas.{alone, answered, no_limit, no_offset, one_equals}
-use Rattle.sql_schema.proofs.ScanLemmas.{scan}
-use Rattle.sql_schema.proofs.WriteLemmas.{cast_int, cast_null}
+use Rattle.sql_schema.proofs.TableNames.{Null, Int, Select, Update, reads_listing, Row, Executes, Shown, State, Term, col, lit, output, IsPlain, command_of, cast_row, id_in, rowid, Sheets, AnyRow, HoldsTables, all_of_it, bank_schema, nothing_set_off, pick, sets_row, alone, answered, no_limit, no_offset, one_equals, scan, cast_int, cast_null}
 use Rattle.sql_books.specs.Texts.{set_version_text, version_text}
 
 -- ---- one row, which its version alone determines
@@ -52,8 +38,8 @@ all_of_them : (rows : List Row) → map all_of_it rows ≡ rows
 all_of_them [] = refl
 all_of_them (row ∷ rows) = ap (λ rest. row ∷ rest) (all_of_them rows)
 
-told : (version : ℕ) (tree : List Row) → Holds (version ∷ []) tree → tree ≡ bank_cells version ∷ []
-told version tree holds = sym (all_of_them tree) ∙ one_permutation (bank_cells version) (map all_of_it tree) holds.same
+stated : (version : ℕ) (tree : List Row) → Holds (version ∷ []) tree → tree ≡ bank_cells version ∷ []
+stated version tree holds = sym (all_of_them tree) ∙ one_permutation (bank_cells version) (map all_of_it tree) holds.same
 
 -- ---- SELECT
 
@@ -106,5 +92,5 @@ sets_version old new s version count holds h =
     record {
       schema = it.schema;
       sound = it.sound;
-      rows = with_version old.now.trees new.now.trees s version holds.rows it.others (told version (new.now.trees 0) it.rows);
+      rows = with_version old.now.trees new.now.trees s version holds.rows it.others (stated version (new.now.trees 0) it.rows);
     }

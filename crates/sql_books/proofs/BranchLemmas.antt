@@ -1,40 +1,15 @@
 -- What the statements on the branches do.
 use Rattle.std.proofs.Common.{◌≡◌, ◌/◌, ℕ, pos, List, [], ◌∷◌, map, filter, drop, codes, false, Ok, refl, ap, sym, ◌∙◌, subst, ◌==◌}
-use Rattle.sqlite.specs.declared.types.Value.TheVariants.{Null, Int}
-use Rattle.sqlite.specs.Command.TheVariants.{Insert, Select, Update}
-use Rattle.sqlite.specs.Edit.{edit_of}
-use Rattle.sqlite.specs.Effect.{value_rows}
-use Rattle.sqlite.specs.Listing.{understood, reads_listing}
-use Rattle.sqlite.specs.Order.{Row}
-use Rattle.sqlite.specs.Rowids.TheVariants.{Chosen}
-use Rattle.sqlite.specs.Source.TheVariants.{Values}
-use Rattle.sqlite.specs.State.{Executes, Shown, State}
-use Rattle.sqlite.specs.Term.{Term, col, lit}
-use Rattle.sqlite.specs.Tree.{Trees}
-use Rattle.sqlite.specs.Query.{output}
-use Rattle.sqlite.proofs.Callers.{IsPlain, command_of}
-use Rattle.sqlite_rules.specs.Cast.{cast_row}
-use Rattle.sqlite_rules.specs.Edit.{id_in}
+use Rattle.sqlite.specs.Listing.{understood}
 use Rattle.sqlite_tied.specs.Compute.{everything}
-use Rattle.sqlite_trees.specs.Tree.{rowid}
-use Rattle.keyed_rows.specs.Ordered.{add_row}
 use Rattle.bank_books.specs.declared.records.BranchRecord.{BranchRecord}
-use Rattle.book_kept.specs.Named.{IsFree}
-use Rattle.book_kept.specs.Sheets.{Sheets, set_row, branch_no}
-use Rattle.sql_schema.specs.Cells.{AnyRow, branch_cells}
-use Rattle.sql_schema.specs.Held.{HoldsTables}
+use Rattle.book_kept.specs.Sheets.{branch_no}
+use Rattle.sql_schema.specs.Cells.{branch_cells}
 use Rattle.sql_schema.specs.Held.Sheet.{branches as in_branches}
-use Rattle.sql_schema.specs.HeldRows.{all_of_it}
-use Rattle.sql_schema.specs.Schema.{bank_schema, branches_table}
-use Rattle.sql_schema.proofs.ActionLemmas.{nothing_set_off}
+use Rattle.sql_schema.specs.Schema.{branches_table}
 use Rattle.sql_schema.proofs.FrameLemmas.{with_branches}
-use Rattle.sql_schema.proofs.InsertLemmas.{adds_by_rowid, apart_by_rowid, puts}
-use Rattle.sql_schema.proofs.PickLemmas.{pick, sets_row}
-use Rattle.sql_schema.proofs.ReadLemmas.{alone, answered, by_key, no_limit, no_offset, one_equals}
-use Rattle.sql_schema.proofs.ScanLemmas.{scan}
-use Rattle.sql_schema.proofs.WriteLemmas.{cast_int, cast_null, inserts}
-use Rattle.sql_schema.proofs.PickedRows.{few_of_key}
 use Rattle.sql_schema.specs.Shown.{shown_branch}
+use Rattle.sql_schema.proofs.TableNames.{Null, Int, Insert, Select, Update, edit_of, value_rows, reads_listing, Row, Chosen, Values, Executes, Shown, State, Term, col, lit, Trees, output, IsPlain, command_of, cast_row, id_in, rowid, add_row, IsFree, Sheets, set_row, AnyRow, HoldsTables, all_of_it, bank_schema, nothing_set_off, adds_by_rowid, apart_by_rowid, puts, pick, sets_row, alone, answered, by_key, no_limit, no_offset, one_equals, scan, cast_int, cast_null, inserts, few_of_key}
 use Rattle.sql_books.specs.Texts.{branch_text, add_branch_text, set_branch_text}
 
 -- ---- SELECT

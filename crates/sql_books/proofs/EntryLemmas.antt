@@ -1,42 +1,23 @@
 -- What the statements on the entries do.
 use Rattle.std.proofs.Common.{◌≡◌, ◌/◌, ◌<◌, ◌^◌, ℕ, pos, List, [], ◌∷◌, map, filter, take, drop, length, codes, true, false, Ok, refl, ap, ◌∙◌}
 use Rattle.std.proofs.lemmas.List.Sorted.{length_permutation}
-use Rattle.sqlite.specs.declared.types.Value.TheVariants.{Null, Int}
-use Rattle.sqlite.specs.Command.TheVariants.{Insert, Select}
-use Rattle.sqlite.specs.Edit.{edit_of}
-use Rattle.sqlite.specs.Effect.{value_rows}
-use Rattle.sqlite.specs.Listing.{understood, reads_listing}
-use Rattle.sqlite.specs.Order.{Row}
-use Rattle.sqlite.specs.Rowids.TheVariants.{Chosen}
-use Rattle.sqlite.specs.Source.TheVariants.{Values}
-use Rattle.sqlite.specs.State.{Executes, Shown, State}
-use Rattle.sqlite.specs.Term.{Term, col, lit}
-use Rattle.sqlite.specs.Tree.{Trees}
-use Rattle.sqlite.specs.Query.{output}
-use Rattle.sqlite.proofs.Callers.{IsPlain, command_of}
-use Rattle.sqlite_rules.specs.Edit.{next_rowid}
-use Rattle.sqlite_schema.specs.Rules.{agree}
+use Rattle.sqlite.specs.Listing.{understood}
 use Rattle.sqlite_tied.specs.Compute.{everything}
-use Rattle.sqlite_value.specs.Keys.{plain}
 use Rattle.sqlite_value.specs.declared.keys.Key.{Key}
-use Rattle.keyed_rows.specs.Ordered.{add_row}
 use Rattle.bank_books.specs.declared.records.EntryRecord.{EntryRecord}
 use Rattle.sql_schema.specs.Numbers.{entry_form_number}
-use Rattle.book_kept.specs.Named.{IsFree}
-use Rattle.book_kept.specs.Sheets.{Sheets, entry_no}
+use Rattle.book_kept.specs.Sheets.{entry_no}
 use Rattle.sql_schema.specs.Cells.{EntryFits, entry_cells}
-use Rattle.sql_schema.specs.Held.{HoldsTables}
 use Rattle.sql_schema.specs.Held.Sheet.{entries as in_entries}
 use Rattle.sql_schema.specs.HeldRows.{all_but_rowid}
-use Rattle.sql_schema.specs.Schema.{bank_schema, entries_index, entries_table, newest}
+use Rattle.sql_schema.specs.Schema.{entries_index, entries_table}
 use Rattle.sql_schema.proofs.NamedTables.{entries_index_there, entries_there}
 use Rattle.sql_schema.proofs.FrameLemmas.{with_entries}
 use Rattle.sql_schema.proofs.KeyTests.{length-mapped}
-use Rattle.sql_schema.proofs.InsertLemmas.{adds_by_columns, apart_by_index, parts_of, puts, two_agree}
-use Rattle.sql_schema.proofs.ReadLemmas.{alone, answered, answers, by_two, in_order_of_fitting, is_given, no_limit, no_offset, rises_by_two, rising_key, two_equal}
-use Rattle.sql_schema.proofs.ScanLemmas.{passes, scan}
-use Rattle.sql_schema.proofs.WriteLemmas.{cast_int, cast_null, inserts}
-use Rattle.sql_schema.proofs.PickedRows.{few_of_parts, first_alone}
+use Rattle.sql_schema.proofs.ReadLemmas.{answers, by_two, in_order_of_fitting, rises_by_two, two_equal}
+use Rattle.sql_schema.proofs.ScanLemmas.{passes}
+use Rattle.sql_schema.proofs.PickedRows.{few_of_parts}
+use Rattle.sql_schema.proofs.TableNames.{Null, Int, Insert, Select, edit_of, value_rows, reads_listing, Row, Chosen, Values, Executes, Shown, State, Term, col, lit, Trees, output, IsPlain, command_of, next_rowid, agree, plain, add_row, IsFree, Sheets, HoldsTables, bank_schema, newest, adds_by_columns, apart_by_index, parts_of, puts, two_agree, alone, answered, is_given, no_limit, no_offset, rising_key, scan, cast_int, cast_null, inserts, first_alone}
 use Rattle.sql_books.specs.Picks.{is_entry, is_entry_at, undoes_entry}
 use Rattle.sql_books.specs.Texts.{entry_text, add_entry_text, turn_text, undoing_text}
 

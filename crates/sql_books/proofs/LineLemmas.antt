@@ -1,34 +1,16 @@
 -- What the INSERT of a line does.
 use Rattle.std.proofs.Common.{◌≡◌, ◌/◌, ℕ, pos, List, [], ◌∷◌, drop, true, Ok, refl}
-use Rattle.sqlite.specs.declared.types.Value.TheVariants.{Null, Int}
-use Rattle.sqlite.specs.Command.TheVariants.{Insert}
-use Rattle.sqlite.specs.Edit.{edit_of}
-use Rattle.sqlite.specs.Effect.{value_rows}
 use Rattle.sqlite.specs.Listing.{understood}
-use Rattle.sqlite.specs.Order.{Row}
-use Rattle.sqlite.specs.Rowids.TheVariants.{Chosen}
-use Rattle.sqlite.specs.Source.TheVariants.{Values}
-use Rattle.sqlite.specs.State.{Executes, State}
-use Rattle.sqlite.specs.Term.{Term, col, lit}
-use Rattle.sqlite.specs.Tree.{Trees}
-use Rattle.sqlite.proofs.Callers.{IsPlain, command_of}
-use Rattle.sqlite_rules.specs.Edit.{next_rowid}
-use Rattle.sqlite_schema.specs.Rules.{agree}
 use Rattle.sqlite_tied.specs.Compute.{everything}
-use Rattle.sqlite_value.specs.Keys.{plain}
-use Rattle.keyed_rows.specs.Ordered.{add_row}
 use Rattle.bank_books.specs.Keys.{line_key}
 use Rattle.bank_books.specs.declared.rows.CashLine.{CashLine}
-use Rattle.book_kept.specs.Sheets.{Sheets}
 use Rattle.sql_schema.specs.Cells.{LineFits, line_cells}
-use Rattle.sql_schema.specs.Held.{HoldsTables}
 use Rattle.sql_schema.specs.Held.Sheet.{lines as in_lines}
 use Rattle.sql_schema.specs.Numbers.{line_form_number}
-use Rattle.sql_schema.specs.Schema.{bank_schema, lines_index, lines_table, newest}
+use Rattle.sql_schema.specs.Schema.{lines_index, lines_table}
 use Rattle.sql_schema.proofs.NamedTables.{lines_index_there, lines_there}
 use Rattle.sql_schema.proofs.FrameLemmas.{with_lines}
-use Rattle.sql_schema.proofs.InsertLemmas.{adds_by_columns, apart_by_index, parts_of, puts, two_agree}
-use Rattle.sql_schema.proofs.WriteLemmas.{cast_int, cast_null, inserts}
+use Rattle.sql_schema.proofs.TableNames.{Null, Int, Insert, edit_of, value_rows, Row, Chosen, Values, Executes, State, Term, col, lit, Trees, IsPlain, command_of, next_rowid, agree, plain, add_row, Sheets, HoldsTables, bank_schema, newest, adds_by_columns, apart_by_index, parts_of, puts, two_agree, cast_int, cast_null, inserts}
 use Rattle.sql_books.specs.Texts.{add_line_text}
 
 abbrev add_line_terms : List Term

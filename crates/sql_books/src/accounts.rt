@@ -6,7 +6,7 @@ ghost use Rattle.sqlite.specs.Held.{state};
 ghost use Rattle.keyed_rows.specs.Ordered.{add_row};
 ghost use Rattle.book_kept.specs.Named.{IsFree};
 ghost use Rattle.book_kept.specs.Sheets.{account_no, set_row};
-ghost use Rattle.sql_schema.specs.Steps.{FindsHeld, LeavesNone, RunsInside, Stays, Steps, Tells, WasOpen};
+ghost use Rattle.sql_schema.specs.Steps.{FindsHeld, Frame, Reads, RunsInside, Step, Tells};
 ghost use Rattle.sql_books.specs.Given.{given_account};
 ghost use Rattle.sql_books.specs.Picks.{is_account_between};
 ghost use Rattle.sql_schema.specs.Shown.{shown_account};
@@ -22,11 +22,8 @@ pub fn account_of<S: Alter>(
     tx: &mut Transaction<'_, S>,
     account: u32,
 ) -> Result<Option<AccountRecord>, Fault>
-    ensures same_reference { tx.new.conn.ghost_name ≡ tx.old.conn.ghost_name }
+    ensures reads { Reads S.Store tx.old.conn tx.new.conn result }
     ensures found { FindsHeld (state S.Store tx.old.conn.now) (state S.Store tx.new.conn.now) result (λ s found. found ≡ find (λ r. account_no r == account) s.accounts) }
-    ensures steps { Stays (state S.Store tx.old.conn.now) (state S.Store tx.new.conn.now) result }
-    ensures open { WasOpen (state S.Store tx.old.conn.now) (state S.Store tx.new.conn.now) result }
-    ensures survives { LeavesNone (state S.Store tx.old.conn.now) (state S.Store tx.new.conn.now) }
 {
     picked(tx, select_accounts!("WHERE account = ?1"), params![account])
 }
@@ -37,11 +34,8 @@ pub fn least_account<S: Alter>(
     low: u32,
     high: u32,
 ) -> Result<Option<AccountRecord>, Fault>
-    ensures same_reference { tx.new.conn.ghost_name ≡ tx.old.conn.ghost_name }
+    ensures reads { Reads S.Store tx.old.conn tx.new.conn result }
     ensures found { FindsHeld (state S.Store tx.old.conn.now) (state S.Store tx.new.conn.now) result (λ s found. found ≡ find (is_account_between low high) s.accounts) }
-    ensures steps { Stays (state S.Store tx.old.conn.now) (state S.Store tx.new.conn.now) result }
-    ensures open { WasOpen (state S.Store tx.old.conn.now) (state S.Store tx.new.conn.now) result }
-    ensures survives { LeavesNone (state S.Store tx.old.conn.now) (state S.Store tx.new.conn.now) }
 {
     picked(
         tx,
@@ -78,9 +72,8 @@ fn insert_account<S: Alter>(
     tx: &mut Transaction<'_, S>,
     cells: &AccountCells,
 ) -> Result<usize, Fault>
-    ensures same_reference { tx.new.conn.ghost_name ≡ tx.old.conn.ghost_name }
+    ensures frame { Frame S.Store tx.old.conn tx.new.conn }
     ensures runs { RunsInside add_account_text (given_account cells.now) (state S.Store tx.old.conn.now) (state S.Store tx.new.conn.now) result }
-    ensures survives { LeavesNone (state S.Store tx.old.conn.now) (state S.Store tx.new.conn.now) }
 {
     run(
         tx,
@@ -101,10 +94,8 @@ pub fn add_account<S: Alter>(
     tx: &mut Transaction<'_, S>,
     account: &AccountRecord,
 ) -> Result<(), Fault>
-    ensures same_reference { tx.new.conn.ghost_name ≡ tx.old.conn.ghost_name }
-    ensures steps { Steps (state S.Store tx.old.conn.now) (state S.Store tx.new.conn.now) (λ s. record s { accounts = add_row account_no account.now s.accounts }) result }
+    ensures step { Step S.Store tx.old.conn tx.new.conn (λ s. record s { accounts = add_row account_no account.now s.accounts }) result }
     ensures free { Tells (state S.Store tx.old.conn.now) (state S.Store tx.new.conn.now) (λ s. IsFree account_no s.accounts (account_no account.now)) result }
-    ensures survives { LeavesNone (state S.Store tx.old.conn.now) (state S.Store tx.new.conn.now) }
 {
     let cells = cells_of(account)?;
     insert_account(tx, &cells)?;
@@ -115,9 +106,8 @@ fn update_account<S: Alter>(
     tx: &mut Transaction<'_, S>,
     cells: &AccountCells,
 ) -> Result<usize, Fault>
-    ensures same_reference { tx.new.conn.ghost_name ≡ tx.old.conn.ghost_name }
+    ensures frame { Frame S.Store tx.old.conn tx.new.conn }
     ensures runs { RunsInside set_account_text (given_account cells.now) (state S.Store tx.old.conn.now) (state S.Store tx.new.conn.now) result }
-    ensures survives { LeavesNone (state S.Store tx.old.conn.now) (state S.Store tx.new.conn.now) }
 {
     run(
         tx,
@@ -138,9 +128,7 @@ pub fn set_account<S: Alter>(
     tx: &mut Transaction<'_, S>,
     account: &AccountRecord,
 ) -> Result<(), Fault>
-    ensures same_reference { tx.new.conn.ghost_name ≡ tx.old.conn.ghost_name }
-    ensures steps { Steps (state S.Store tx.old.conn.now) (state S.Store tx.new.conn.now) (λ s. record s { accounts = set_row account_no account.now s.accounts }) result }
-    ensures survives { LeavesNone (state S.Store tx.old.conn.now) (state S.Store tx.new.conn.now) }
+    ensures step { Step S.Store tx.old.conn tx.new.conn (λ s. record s { accounts = set_row account_no account.now s.accounts }) result }
 {
     let cells = cells_of(account)?;
     update_account(tx, &cells)?;

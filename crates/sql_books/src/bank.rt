@@ -4,7 +4,7 @@ ghost use Rattle.std.specs.Prelude.{◌≡◌, ◌≤◌, ◌∷◌, ◌^◌, []
 ghost use Rattle.money.specs.declared.fault.Fault.TheVariants.{Size};
 ghost use Rattle.sqlite.specs.Held.{state};
 ghost use Rattle.sqlite.specs.declared.types.Value.TheVariants.{Int};
-ghost use Rattle.sql_schema.specs.Steps.{FindsHeld, LeavesNone, RunsInside, Stays, Steps, WasOpen};
+ghost use Rattle.sql_schema.specs.Steps.{FindsHeld, Frame, Reads, RunsInside, Step};
 ghost use Rattle.sql_books.specs.Given.{given_version};
 ghost use Rattle.sql_books.specs.Texts.{set_version_text};
 
@@ -14,11 +14,8 @@ use sqlite::{Alter, Row, Transaction, params};
 
 /// The version of the policy, in one row.
 fn select_version<S: Alter>(tx: &mut Transaction<'_, S>) -> Result<Vec<Row>, Fault>
-    ensures same_reference { tx.new.conn.ghost_name ≡ tx.old.conn.ghost_name }
+    ensures reads { Reads S.Store tx.old.conn tx.new.conn result }
     ensures rows { FindsHeld (state S.Store tx.old.conn.now) (state S.Store tx.new.conn.now) result (λ s rows. rows.items ≡ (Int (pos s.version) ∷ []) ∷ []) }
-    ensures steps { Stays (state S.Store tx.old.conn.now) (state S.Store tx.new.conn.now) result }
-    ensures open { WasOpen (state S.Store tx.old.conn.now) (state S.Store tx.new.conn.now) result }
-    ensures survives { LeavesNone (state S.Store tx.old.conn.now) (state S.Store tx.new.conn.now) }
 {
     plain_rows(tx, "SELECT policy FROM bank WHERE id = 1", params![])
 }
@@ -26,11 +23,8 @@ fn select_version<S: Alter>(tx: &mut Transaction<'_, S>) -> Result<Vec<Row>, Fau
 /// The version of the policy: how many plans have changed it. A file without the row of the bank is
 /// a fault of the disk.
 pub fn version_of<S: Alter>(tx: &mut Transaction<'_, S>) -> Result<u64, Fault>
-    ensures same_reference { tx.new.conn.ghost_name ≡ tx.old.conn.ghost_name }
+    ensures reads { Reads S.Store tx.old.conn tx.new.conn result }
     ensures found { FindsHeld (state S.Store tx.old.conn.now) (state S.Store tx.new.conn.now) result (λ s version. version ≡ s.version) }
-    ensures steps { Stays (state S.Store tx.old.conn.now) (state S.Store tx.new.conn.now) result }
-    ensures open { WasOpen (state S.Store tx.old.conn.now) (state S.Store tx.new.conn.now) result }
-    ensures survives { LeavesNone (state S.Store tx.old.conn.now) (state S.Store tx.new.conn.now) }
 {
     let rows = select_version(tx)?;
     match rows.first() {
@@ -58,9 +52,8 @@ fn update_version<S: Alter>(
     tx: &mut Transaction<'_, S>,
     cells: &VersionCells,
 ) -> Result<usize, Fault>
-    ensures same_reference { tx.new.conn.ghost_name ≡ tx.old.conn.ghost_name }
+    ensures frame { Frame S.Store tx.old.conn tx.new.conn }
     ensures runs { RunsInside set_version_text (given_version cells.now) (state S.Store tx.old.conn.now) (state S.Store tx.new.conn.now) result }
-    ensures survives { LeavesNone (state S.Store tx.old.conn.now) (state S.Store tx.new.conn.now) }
 {
     run(
         tx,
@@ -71,9 +64,7 @@ fn update_version<S: Alter>(
 
 /// Writes the version of the policy.
 pub fn set_version<S: Alter>(tx: &mut Transaction<'_, S>, version: u64) -> Result<(), Fault>
-    ensures same_reference { tx.new.conn.ghost_name ≡ tx.old.conn.ghost_name }
-    ensures steps { Steps (state S.Store tx.old.conn.now) (state S.Store tx.new.conn.now) (λ s. record s { version = version }) result }
-    ensures survives { LeavesNone (state S.Store tx.old.conn.now) (state S.Store tx.new.conn.now) }
+    ensures step { Step S.Store tx.old.conn tx.new.conn (λ s. record s { version = version }) result }
 {
     let cells = cells_of(version)?;
     update_version(tx, &cells)?;

@@ -6,7 +6,7 @@ ghost use Rattle.sqlite.specs.Held.{state};
 ghost use Rattle.keyed_rows.specs.Ordered.{add_row};
 ghost use Rattle.book_kept.specs.Named.{IsFree};
 ghost use Rattle.book_kept.specs.Sheets.{branch_no, set_row};
-ghost use Rattle.sql_schema.specs.Steps.{FindsHeld, LeavesNone, RunsInside, Stays, Steps, Tells, WasOpen};
+ghost use Rattle.sql_schema.specs.Steps.{FindsHeld, Frame, Reads, RunsInside, Step, Tells};
 ghost use Rattle.sql_books.specs.Given.{given_branch};
 ghost use Rattle.sql_schema.specs.Shown.{shown_branch};
 ghost use Rattle.sql_books.specs.Texts.{add_branch_text, set_branch_text};
@@ -21,11 +21,8 @@ pub fn branch_of<S: Alter>(
     tx: &mut Transaction<'_, S>,
     branch: u32,
 ) -> Result<Option<BranchRecord>, Fault>
-    ensures same_reference { tx.new.conn.ghost_name ≡ tx.old.conn.ghost_name }
+    ensures reads { Reads S.Store tx.old.conn tx.new.conn result }
     ensures found { FindsHeld (state S.Store tx.old.conn.now) (state S.Store tx.new.conn.now) result (λ s found. found ≡ find (λ r. branch_no r == branch) s.branches) }
-    ensures steps { Stays (state S.Store tx.old.conn.now) (state S.Store tx.new.conn.now) result }
-    ensures open { WasOpen (state S.Store tx.old.conn.now) (state S.Store tx.new.conn.now) result }
-    ensures survives { LeavesNone (state S.Store tx.old.conn.now) (state S.Store tx.new.conn.now) }
 {
     picked(tx, select_branches!("WHERE branch = ?1"), params![branch])
 }
@@ -69,9 +66,8 @@ fn cells_of(branch: &BranchRecord) -> Result<BranchCells, Fault>
 }
 
 fn insert_branch<S: Alter>(tx: &mut Transaction<'_, S>, cells: &BranchCells) -> Result<usize, Fault>
-    ensures same_reference { tx.new.conn.ghost_name ≡ tx.old.conn.ghost_name }
+    ensures frame { Frame S.Store tx.old.conn tx.new.conn }
     ensures runs { RunsInside add_branch_text (given_branch cells.now) (state S.Store tx.old.conn.now) (state S.Store tx.new.conn.now) result }
-    ensures survives { LeavesNone (state S.Store tx.old.conn.now) (state S.Store tx.new.conn.now) }
 {
     run(
         tx,
@@ -96,10 +92,8 @@ fn insert_branch<S: Alter>(tx: &mut Transaction<'_, S>, cells: &BranchCells) -> 
 
 /// Adds a branch. One whose number is taken is a fault of the disk.
 pub fn add_branch<S: Alter>(tx: &mut Transaction<'_, S>, branch: &BranchRecord) -> Result<(), Fault>
-    ensures same_reference { tx.new.conn.ghost_name ≡ tx.old.conn.ghost_name }
-    ensures steps { Steps (state S.Store tx.old.conn.now) (state S.Store tx.new.conn.now) (λ s. record s { branches = add_row branch_no branch.now s.branches }) result }
+    ensures step { Step S.Store tx.old.conn tx.new.conn (λ s. record s { branches = add_row branch_no branch.now s.branches }) result }
     ensures free { Tells (state S.Store tx.old.conn.now) (state S.Store tx.new.conn.now) (λ s. IsFree branch_no s.branches (branch_no branch.now)) result }
-    ensures survives { LeavesNone (state S.Store tx.old.conn.now) (state S.Store tx.new.conn.now) }
 {
     let cells = cells_of(branch)?;
     insert_branch(tx, &cells)?;
@@ -107,9 +101,8 @@ pub fn add_branch<S: Alter>(tx: &mut Transaction<'_, S>, branch: &BranchRecord) 
 }
 
 fn update_branch<S: Alter>(tx: &mut Transaction<'_, S>, cells: &BranchCells) -> Result<usize, Fault>
-    ensures same_reference { tx.new.conn.ghost_name ≡ tx.old.conn.ghost_name }
+    ensures frame { Frame S.Store tx.old.conn tx.new.conn }
     ensures runs { RunsInside set_branch_text (given_branch cells.now) (state S.Store tx.old.conn.now) (state S.Store tx.new.conn.now) result }
-    ensures survives { LeavesNone (state S.Store tx.old.conn.now) (state S.Store tx.new.conn.now) }
 {
     run(
         tx,
@@ -134,9 +127,7 @@ fn update_branch<S: Alter>(tx: &mut Transaction<'_, S>, cells: &BranchCells) -> 
 
 /// Writes a branch in place of the one of its number.
 pub fn set_branch<S: Alter>(tx: &mut Transaction<'_, S>, branch: &BranchRecord) -> Result<(), Fault>
-    ensures same_reference { tx.new.conn.ghost_name ≡ tx.old.conn.ghost_name }
-    ensures steps { Steps (state S.Store tx.old.conn.now) (state S.Store tx.new.conn.now) (λ s. record s { branches = set_row branch_no branch.now s.branches }) result }
-    ensures survives { LeavesNone (state S.Store tx.old.conn.now) (state S.Store tx.new.conn.now) }
+    ensures step { Step S.Store tx.old.conn tx.new.conn (λ s. record s { branches = set_row branch_no branch.now s.branches }) result }
 {
     let cells = cells_of(branch)?;
     update_branch(tx, &cells)?;

@@ -6,7 +6,7 @@ ghost use Rattle.bank_books.specs.Keys.{proof_key};
 ghost use Rattle.book_kept.specs.Changes.{proof_sheets};
 ghost use Rattle.book_kept.specs.Named.{IsFree};
 ghost use Rattle.sql_schema.specs.Cells.{proof_cells};
-ghost use Rattle.sql_schema.specs.Steps.{LeavesNone, RunsInside, Steps, Tells};
+ghost use Rattle.sql_schema.specs.Steps.{Frame, RunsInside, Step, Tells};
 ghost use Rattle.sql_books.specs.Given.{given_proof};
 ghost use Rattle.sql_books.specs.Texts.{add_proof_text};
 
@@ -38,10 +38,9 @@ fn cells_of(proof: &Proof) -> ProofCells
 }
 
 fn insert_proof<S: Alter>(tx: &mut Transaction<'_, S>, cells: &ProofCells) -> Result<usize, Fault>
-    ensures same_reference { tx.new.conn.ghost_name ≡ tx.old.conn.ghost_name }
+    ensures frame { Frame S.Store tx.old.conn tx.new.conn }
     ensures runs { RunsInside add_proof_text (given_proof cells.now) (state S.Store tx.old.conn.now) (state S.Store tx.new.conn.now) result }
     ensures small { cells.now.day < 2 ^ 32 }
-    ensures survives { LeavesNone (state S.Store tx.old.conn.now) (state S.Store tx.new.conn.now) }
 {
     run(
         tx,
@@ -58,10 +57,8 @@ fn insert_proof<S: Alter>(tx: &mut Transaction<'_, S>, cells: &ProofCells) -> Re
 
 /// Adds the proof of a day. One of its branch and day that is there already is a fault of the disk.
 pub fn add_proof<S: Alter>(tx: &mut Transaction<'_, S>, proof: &Proof) -> Result<(), Fault>
-    ensures same_reference { tx.new.conn.ghost_name ≡ tx.old.conn.ghost_name }
-    ensures steps { Steps (state S.Store tx.old.conn.now) (state S.Store tx.new.conn.now) (proof_sheets proof.now) result }
+    ensures step { Step S.Store tx.old.conn tx.new.conn (proof_sheets proof.now) result }
     ensures free { Tells (state S.Store tx.old.conn.now) (state S.Store tx.new.conn.now) (λ s. IsFree proof_key s.proofs (proof_key proof.now)) result }
-    ensures survives { LeavesNone (state S.Store tx.old.conn.now) (state S.Store tx.new.conn.now) }
 {
     let cells = cells_of(proof);
     insert_proof(tx, &cells)?;

@@ -8,7 +8,7 @@ ghost use Rattle.book_kept.specs.Named.{IsFree};
 ghost use Rattle.book_kept.specs.Sheets.{entry_no};
 ghost use Rattle.sql_schema.specs.Cells.{EntryFits, entry_cells};
 ghost use Rattle.sql_schema.specs.Numbers.{entry_form_number};
-ghost use Rattle.sql_schema.specs.Steps.{FindsHeld, LeavesNone, RunsInside, Stays, Steps, Tells, WasOpen};
+ghost use Rattle.sql_schema.specs.Steps.{FindsHeld, Frame, Reads, RunsInside, Step, Tells};
 ghost use Rattle.sql_books.specs.Given.{given_entry};
 ghost use Rattle.sql_books.specs.Picks.{is_entry, undoes_entry};
 ghost use Rattle.sql_books.specs.Texts.{add_entry_text};
@@ -24,11 +24,8 @@ pub fn entry_of<S: Alter>(
     branch: u32,
     number: u32,
 ) -> Result<Option<EntryRecord>, Fault>
-    ensures same_reference { tx.new.conn.ghost_name ≡ tx.old.conn.ghost_name }
+    ensures reads { Reads S.Store tx.old.conn tx.new.conn result }
     ensures found { FindsHeld (state S.Store tx.old.conn.now) (state S.Store tx.new.conn.now) result (λ s found. found ≡ find (is_entry branch number) s.entries) }
-    ensures steps { Stays (state S.Store tx.old.conn.now) (state S.Store tx.new.conn.now) result }
-    ensures open { WasOpen (state S.Store tx.old.conn.now) (state S.Store tx.new.conn.now) result }
-    ensures survives { LeavesNone (state S.Store tx.old.conn.now) (state S.Store tx.new.conn.now) }
 {
     picked(
         tx,
@@ -43,11 +40,8 @@ fn select_undoing<S: Alter>(
     branch: u32,
     number: u32,
 ) -> Result<Vec<Row>, Fault>
-    ensures same_reference { tx.new.conn.ghost_name ≡ tx.old.conn.ghost_name }
+    ensures reads { Reads S.Store tx.old.conn tx.new.conn result }
     ensures rows { FindsHeld (state S.Store tx.old.conn.now) (state S.Store tx.new.conn.now) result (λ s rows. length rows.items ≡ length (filter (undoes_entry branch number) s.entries)) }
-    ensures steps { Stays (state S.Store tx.old.conn.now) (state S.Store tx.new.conn.now) result }
-    ensures open { WasOpen (state S.Store tx.old.conn.now) (state S.Store tx.new.conn.now) result }
-    ensures survives { LeavesNone (state S.Store tx.old.conn.now) (state S.Store tx.new.conn.now) }
 {
     plain_rows(
         tx,
@@ -63,11 +57,8 @@ pub fn is_undone<S: Alter>(
     branch: u32,
     number: u32,
 ) -> Result<bool, Fault>
-    ensures same_reference { tx.new.conn.ghost_name ≡ tx.old.conn.ghost_name }
+    ensures reads { Reads S.Store tx.old.conn tx.new.conn result }
     ensures found { FindsHeld (state S.Store tx.old.conn.now) (state S.Store tx.new.conn.now) result (λ s undone. undone ≡ list_any (undoes_entry branch number) s.entries) }
-    ensures steps { Stays (state S.Store tx.old.conn.now) (state S.Store tx.new.conn.now) result }
-    ensures open { WasOpen (state S.Store tx.old.conn.now) (state S.Store tx.new.conn.now) result }
-    ensures survives { LeavesNone (state S.Store tx.old.conn.now) (state S.Store tx.new.conn.now) }
 {
     let rows = select_undoing(tx, branch, number)?;
     Ok(!rows.is_empty())
@@ -124,9 +115,8 @@ fn cells_of(entry: &EntryRecord) -> Result<EntryCells, Fault>
 }
 
 fn insert_entry<S: Alter>(tx: &mut Transaction<'_, S>, cells: &EntryCells) -> Result<usize, Fault>
-    ensures same_reference { tx.new.conn.ghost_name ≡ tx.old.conn.ghost_name }
+    ensures frame { Frame S.Store tx.old.conn tx.new.conn }
     ensures runs { RunsInside add_entry_text (given_entry cells.now) (state S.Store tx.old.conn.now) (state S.Store tx.new.conn.now) result }
-    ensures survives { LeavesNone (state S.Store tx.old.conn.now) (state S.Store tx.new.conn.now) }
 {
     run(
         tx,
@@ -151,10 +141,8 @@ fn insert_entry<S: Alter>(tx: &mut Transaction<'_, S>, cells: &EntryCells) -> Re
 
 /// Adds an entry. One whose number is taken in its branch is a fault of the disk.
 pub fn add_entry<S: Alter>(tx: &mut Transaction<'_, S>, entry: &EntryRecord) -> Result<(), Fault>
-    ensures same_reference { tx.new.conn.ghost_name ≡ tx.old.conn.ghost_name }
-    ensures steps { Steps (state S.Store tx.old.conn.now) (state S.Store tx.new.conn.now) (λ s. record s { entries = add_row entry_no entry.now s.entries }) result }
+    ensures step { Step S.Store tx.old.conn tx.new.conn (λ s. record s { entries = add_row entry_no entry.now s.entries }) result }
     ensures free { Tells (state S.Store tx.old.conn.now) (state S.Store tx.new.conn.now) (λ s. IsFree entry_no s.entries (entry_no entry.now)) result }
-    ensures survives { LeavesNone (state S.Store tx.old.conn.now) (state S.Store tx.new.conn.now) }
 {
     let cells = cells_of(entry)?;
     insert_entry(tx, &cells)?;

@@ -6,7 +6,7 @@ ghost use Rattle.keyed_rows.specs.Ordered.{add_row};
 ghost use Rattle.bank_books.specs.Keys.{line_key};
 ghost use Rattle.sql_schema.specs.Cells.{LineFits, line_cells};
 ghost use Rattle.sql_schema.specs.Numbers.{line_form_number};
-ghost use Rattle.sql_schema.specs.Steps.{LeavesNone, RunsInside, Steps};
+ghost use Rattle.sql_schema.specs.Steps.{Frame, RunsInside, Step};
 ghost use Rattle.sql_books.specs.Given.{given_line};
 ghost use Rattle.sql_books.specs.Texts.{add_line_text};
 
@@ -58,9 +58,8 @@ fn cells_of(line: &CashLine) -> Result<LineCells, Fault>
 }
 
 fn insert_line<S: Alter>(tx: &mut Transaction<'_, S>, cells: &LineCells) -> Result<usize, Fault>
-    ensures same_reference { tx.new.conn.ghost_name ≡ tx.old.conn.ghost_name }
+    ensures frame { Frame S.Store tx.old.conn tx.new.conn }
     ensures runs { RunsInside add_line_text (given_line cells.now) (state S.Store tx.old.conn.now) (state S.Store tx.new.conn.now) result }
-    ensures survives { LeavesNone (state S.Store tx.old.conn.now) (state S.Store tx.new.conn.now) }
 {
     run(
         tx,
@@ -80,9 +79,7 @@ fn insert_line<S: Alter>(tx: &mut Transaction<'_, S>, cells: &LineCells) -> Resu
 
 /// Adds a line. One whose number is taken in the cash book of its branch is a fault of the disk, and a moment of more than 63 bits one of size.
 pub fn add_line<S: Alter>(tx: &mut Transaction<'_, S>, line: &CashLine) -> Result<(), Fault>
-    ensures same_reference { tx.new.conn.ghost_name ≡ tx.old.conn.ghost_name }
-    ensures steps { Steps (state S.Store tx.old.conn.now) (state S.Store tx.new.conn.now) (λ s. record s { lines = add_row line_key line.now s.lines }) result }
-    ensures survives { LeavesNone (state S.Store tx.old.conn.now) (state S.Store tx.new.conn.now) }
+    ensures step { Step S.Store tx.old.conn tx.new.conn (λ s. record s { lines = add_row line_key line.now s.lines }) result }
 {
     let cells = cells_of(line)?;
     insert_line(tx, &cells)?;

@@ -6,7 +6,7 @@ ghost use Rattle.sqlite.specs.Held.{state};
 ghost use Rattle.keyed_rows.specs.Ordered.{add_row};
 ghost use Rattle.book_kept.specs.Named.{IsFree};
 ghost use Rattle.book_kept.specs.Sheets.{teller_no, set_row};
-ghost use Rattle.sql_schema.specs.Steps.{FindsHeld, LeavesNone, RunsInside, Stays, Steps, Tells, WasOpen};
+ghost use Rattle.sql_schema.specs.Steps.{FindsHeld, Frame, Reads, RunsInside, Step, Tells};
 ghost use Rattle.sql_books.specs.Given.{given_teller};
 ghost use Rattle.sql_books.specs.Picks.{is_teller_after, is_teller_of};
 ghost use Rattle.sql_schema.specs.Shown.{shown_teller};
@@ -22,22 +22,16 @@ pub fn teller_of<S: Alter>(
     tx: &mut Transaction<'_, S>,
     teller: u32,
 ) -> Result<Option<KeptTeller>, Fault>
-    ensures same_reference { tx.new.conn.ghost_name ≡ tx.old.conn.ghost_name }
+    ensures reads { Reads S.Store tx.old.conn tx.new.conn result }
     ensures found { FindsHeld (state S.Store tx.old.conn.now) (state S.Store tx.new.conn.now) result (λ s found. found ≡ find (λ r. teller_no r == teller) s.tellers) }
-    ensures steps { Stays (state S.Store tx.old.conn.now) (state S.Store tx.new.conn.now) result }
-    ensures open { WasOpen (state S.Store tx.old.conn.now) (state S.Store tx.new.conn.now) result }
-    ensures survives { LeavesNone (state S.Store tx.old.conn.now) (state S.Store tx.new.conn.now) }
 {
     picked(tx, select_tellers!("WHERE teller = ?1"), params![teller])
 }
 
 /// The tellers of this branch, by number, with the numbers that are kept beside them.
 pub fn roster<S: Alter>(tx: &mut Transaction<'_, S>, branch: u32) -> Result<Vec<KeptTeller>, Fault>
-    ensures same_reference { tx.new.conn.ghost_name ≡ tx.old.conn.ghost_name }
+    ensures reads { Reads S.Store tx.old.conn tx.new.conn result }
     ensures found { FindsHeld (state S.Store tx.old.conn.now) (state S.Store tx.new.conn.now) result (λ s tellers. tellers.items ≡ filter (is_teller_of branch) s.tellers) }
-    ensures steps { Stays (state S.Store tx.old.conn.now) (state S.Store tx.new.conn.now) result }
-    ensures open { WasOpen (state S.Store tx.old.conn.now) (state S.Store tx.new.conn.now) result }
-    ensures survives { LeavesNone (state S.Store tx.old.conn.now) (state S.Store tx.new.conn.now) }
 {
     listed(
         tx,
@@ -52,11 +46,8 @@ pub fn next_teller<S: Alter>(
     branch: u32,
     after: u32,
 ) -> Result<Option<KeptTeller>, Fault>
-    ensures same_reference { tx.new.conn.ghost_name ≡ tx.old.conn.ghost_name }
+    ensures reads { Reads S.Store tx.old.conn tx.new.conn result }
     ensures found { FindsHeld (state S.Store tx.old.conn.now) (state S.Store tx.new.conn.now) result (λ s found. found ≡ find (is_teller_after branch after) s.tellers) }
-    ensures steps { Stays (state S.Store tx.old.conn.now) (state S.Store tx.new.conn.now) result }
-    ensures open { WasOpen (state S.Store tx.old.conn.now) (state S.Store tx.new.conn.now) result }
-    ensures survives { LeavesNone (state S.Store tx.old.conn.now) (state S.Store tx.new.conn.now) }
 {
     picked(
         tx,
@@ -90,9 +81,8 @@ fn cells_of(teller: &KeptTeller) -> Result<TellerCells, Fault>
 }
 
 fn insert_teller<S: Alter>(tx: &mut Transaction<'_, S>, cells: &TellerCells) -> Result<usize, Fault>
-    ensures same_reference { tx.new.conn.ghost_name ≡ tx.old.conn.ghost_name }
+    ensures frame { Frame S.Store tx.old.conn tx.new.conn }
     ensures runs { RunsInside add_teller_text (given_teller cells.now) (state S.Store tx.old.conn.now) (state S.Store tx.new.conn.now) result }
-    ensures survives { LeavesNone (state S.Store tx.old.conn.now) (state S.Store tx.new.conn.now) }
 {
     run(
         tx,
@@ -110,10 +100,8 @@ fn insert_teller<S: Alter>(tx: &mut Transaction<'_, S>, cells: &TellerCells) -> 
 
 /// Adds a teller. One whose number is taken is a fault of the disk.
 pub fn add_teller<S: Alter>(tx: &mut Transaction<'_, S>, teller: &KeptTeller) -> Result<(), Fault>
-    ensures same_reference { tx.new.conn.ghost_name ≡ tx.old.conn.ghost_name }
-    ensures steps { Steps (state S.Store tx.old.conn.now) (state S.Store tx.new.conn.now) (λ s. record s { tellers = add_row teller_no teller.now s.tellers }) result }
+    ensures step { Step S.Store tx.old.conn tx.new.conn (λ s. record s { tellers = add_row teller_no teller.now s.tellers }) result }
     ensures free { Tells (state S.Store tx.old.conn.now) (state S.Store tx.new.conn.now) (λ s. IsFree teller_no s.tellers (teller_no teller.now)) result }
-    ensures survives { LeavesNone (state S.Store tx.old.conn.now) (state S.Store tx.new.conn.now) }
 {
     let cells = cells_of(teller)?;
     insert_teller(tx, &cells)?;
@@ -121,9 +109,8 @@ pub fn add_teller<S: Alter>(tx: &mut Transaction<'_, S>, teller: &KeptTeller) ->
 }
 
 fn update_teller<S: Alter>(tx: &mut Transaction<'_, S>, cells: &TellerCells) -> Result<usize, Fault>
-    ensures same_reference { tx.new.conn.ghost_name ≡ tx.old.conn.ghost_name }
+    ensures frame { Frame S.Store tx.old.conn tx.new.conn }
     ensures runs { RunsInside set_teller_text (given_teller cells.now) (state S.Store tx.old.conn.now) (state S.Store tx.new.conn.now) result }
-    ensures survives { LeavesNone (state S.Store tx.old.conn.now) (state S.Store tx.new.conn.now) }
 {
     run(
         tx,
@@ -141,9 +128,7 @@ fn update_teller<S: Alter>(tx: &mut Transaction<'_, S>, cells: &TellerCells) -> 
 
 /// Writes a teller in place of the one of its number.
 pub fn set_teller<S: Alter>(tx: &mut Transaction<'_, S>, teller: &KeptTeller) -> Result<(), Fault>
-    ensures same_reference { tx.new.conn.ghost_name ≡ tx.old.conn.ghost_name }
-    ensures steps { Steps (state S.Store tx.old.conn.now) (state S.Store tx.new.conn.now) (λ s. record s { tellers = set_row teller_no teller.now s.tellers }) result }
-    ensures survives { LeavesNone (state S.Store tx.old.conn.now) (state S.Store tx.new.conn.now) }
+    ensures step { Step S.Store tx.old.conn tx.new.conn (λ s. record s { tellers = set_row teller_no teller.now s.tellers }) result }
 {
     let cells = cells_of(teller)?;
     update_teller(tx, &cells)?;

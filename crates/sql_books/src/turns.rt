@@ -6,7 +6,7 @@ ghost use Rattle.money.specs.declared.fault.Fault.TheVariants.{Size};
 ghost use Rattle.sqlite.specs.Held.{state};
 ghost use Rattle.sqlite.specs.State.{HasCleanDisk};
 ghost use Rattle.sqlite.specs.declared.types.Value.TheVariants.{Int};
-ghost use Rattle.sql_schema.specs.Steps.{FindsHeld, FindsHeldInside, LeavesNone, Stays, WasOpen};
+ghost use Rattle.sql_schema.specs.Steps.{FindsHeld, FindsHeldInside, Reads, Step};
 ghost use Rattle.sql_books.specs.Given.{given_turn};
 ghost use Rattle.sql_books.specs.Picks.{is_entry_at};
 ghost use Rattle.sql_books.specs.Turns.{entries_from};
@@ -39,11 +39,8 @@ fn entry_of_turn<S: Alter>(
     account: u32,
     turn: u64,
 ) -> Result<Option<EntryRecord>, Fault>
-    ensures same_reference { tx.new.conn.ghost_name ≡ tx.old.conn.ghost_name }
+    ensures reads { Reads S.Store tx.old.conn tx.new.conn result }
     ensures found { FindsHeld (state S.Store tx.old.conn.now) (state S.Store tx.new.conn.now) result (λ s found. found ≡ find (is_entry_at account turn) s.entries) }
-    ensures steps { Stays (state S.Store tx.old.conn.now) (state S.Store tx.new.conn.now) result }
-    ensures open { WasOpen (state S.Store tx.old.conn.now) (state S.Store tx.new.conn.now) result }
-    ensures survives { LeavesNone (state S.Store tx.old.conn.now) (state S.Store tx.new.conn.now) }
 {
     let cells = cells_of(account, turn)?;
     picked(
@@ -60,11 +57,8 @@ pub fn entry_at<S: Alter>(
     account: u32,
     turn: u32,
 ) -> Result<Option<EntryRecord>, Fault>
-    ensures same_reference { tx.new.conn.ghost_name ≡ tx.old.conn.ghost_name }
+    ensures reads { Reads S.Store tx.old.conn tx.new.conn result }
     ensures found { FindsHeld (state S.Store tx.old.conn.now) (state S.Store tx.new.conn.now) result (λ s found. found ≡ find (is_entry_at account turn) s.entries) }
-    ensures steps { Stays (state S.Store tx.old.conn.now) (state S.Store tx.new.conn.now) result }
-    ensures open { WasOpen (state S.Store tx.old.conn.now) (state S.Store tx.new.conn.now) result }
-    ensures survives { LeavesNone (state S.Store tx.old.conn.now) (state S.Store tx.new.conn.now) }
 {
     entry_of_turn(tx, account, u64::from(turn))
 }
@@ -78,11 +72,9 @@ pub fn entries_from<S: Alter>(
     start: u32,
     count: u32,
 ) -> Result<Vec<EntryRecord>, Fault>
-    ensures same_reference { tx.new.conn.ghost_name ≡ tx.old.conn.ghost_name }
+    ensures step { Step S.Store tx.old.conn tx.new.conn (λ s. s) result }
     ensures listed { FindsHeldInside (state S.Store tx.old.conn.now) (state S.Store tx.new.conn.now) result (λ s rows. rows.items ≡ entries_from s.entries account start count) }
-    ensures steps { Stays (state S.Store tx.old.conn.now) (state S.Store tx.new.conn.now) result }
     ensures open { HasCleanDisk (state S.Store tx.new.conn.now) → OnOk result (0 < count → IsTrue (state S.Store tx.old.conn.now).is_open) × (IsTrue (state S.Store tx.new.conn.now).is_open → IsTrue (state S.Store tx.old.conn.now).is_open) }
-    ensures survives { LeavesNone (state S.Store tx.old.conn.now) (state S.Store tx.new.conn.now) }
 {
     let first = u64::from(start);
     let mut rows = Vec::new(alloc);

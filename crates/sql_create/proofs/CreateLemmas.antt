@@ -1,5 +1,5 @@
 -- What the text of a definition makes of a schema.
-use Rattle.std.proofs.Common.{◌≡◌, ◌⊎◌, inl, inr, None, ℕ, List, [], ◌∷◌, ◌++◌, codes, Bool, true, false, Ok, Err, Result, Some, refl, sym, ap, subst, ◌∙◌}
+use Rattle.std.proofs.Common.{◌≡◌, ◌⊎◌, inl, inr, None, ℕ, List, [], ◌∷◌, ◌++◌, codes, false, Ok, Err, Result, Some, refl, sym, ap, subst, ◌∙◌}
 use Rattle.std.specs.List.{AllByRecursion}
 use Rattle.std.specs.Prelude.{slice_get}
 use Rattle.sqlite.specs.Command.TheVariants.{CreateIndex, CreateTable}

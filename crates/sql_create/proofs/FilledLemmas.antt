@@ -1,5 +1,5 @@
 -- Rows that are written one after another to tables that hold none are the rows of the World.
-use Rattle.std.proofs.Common.{◌≡◌, ◌∙◌, ℕ, ◌<◌, ◌≤◌, List, [], ◌∷◌, ◌++◌, map, Bool, true, false, cond, Contains, zero, suc, append-nil, refl, ap, arith, sym, subst}
+use Rattle.std.proofs.Common.{◌≡◌, ◌∙◌, ℕ, ◌<◌, List, [], ◌∷◌, ◌++◌, map, true, cond, Contains, zero, suc, append-nil, refl, ap, arith, sym, subst}
 use Rattle.std.specs.Prelude.{nat_le}
 use Rattle.std.specs.List.{flat_map}
 use Rattle.std.proofs.lemmas.Bool.Decides.{nat_tests}
@@ -26,11 +26,11 @@ use Rattle.bank_books.specs.declared.rows.Release.{Release}
 use Rattle.keyed_rows.proofs.Rows.{Contains-head, Contains-tail, map-map}
 use Rattle.book_kept.specs.Changes.{add_rows}
 use Rattle.book_kept.specs.Keepable.{IsKeepable, IsOrdered}
-use Rattle.book_kept.specs.Records.{kept_teller, kept_teller_of, kept_user_of, member_rows}
+use Rattle.book_kept.specs.Records.{kept_teller, kept_user_of, member_rows}
 use Rattle.book_kept.specs.Sheets.{Sheets, account_no, branch_no, entry_no, member_no, sheets_of, slip_no, teller_no, user_no}
 use Rattle.book_kept.specs.declared.records.KeptUser.{KeptUser}
 use Rattle.book_kept.proofs.Rising.{Rises, Rises-from_order}
-use Rattle.book_kept.proofs.SheetsTell.{sheets_are_ordered}
+use Rattle.book_kept.proofs.SheetsDetermine.{sheets_are_ordered}
 use Rattle.sql_schema.specs.Held.{set_no}
 use Rattle.sql_create.specs.Blank.{bare}
 use Rattle.sql_create.specs.Filled.{filled, with_account, with_all, with_branch, with_certifier, with_entry, with_line, with_proof, with_relation, with_release, with_set, with_slip, with_slip_count, slips_in, with_teller, with_triple, with_user}

@@ -11,7 +11,7 @@ use Rattle.sql_schema.specs.Schema.{bank_schema}
 abbrev pub no_schema : Schema
 no_schema = record { tables = []; indexes = []; views = [] }
 
--- the first so many tables of a bank's file, and the first so many of its indexes
+-- the first n tables of a bank's file, and the first m of its indexes
 abbrev pub begun : ℕ → ℕ → Schema
 begun tables indexes = record { tables = take tables bank_schema.tables; indexes = take indexes bank_schema.indexes; views = [] }
 

@@ -6,7 +6,7 @@ ghost use Rattle.sqlite.specs.Held.{state};
 ghost use Rattle.sqlite.specs.declared.types.Value.TheVariants.{Int};
 ghost use Rattle.sql_schema.specs.Held.{HoldsTables};
 ghost use Rattle.sql_schema.specs.Schema.{bank_schema};
-ghost use Rattle.sql_schema.specs.Steps.{LeavesNone, RunsInside};
+ghost use Rattle.sql_schema.specs.Steps.{Frame, RunsInside};
 ghost use Rattle.sql_create.specs.Blank.{IsBlank, bare};
 ghost use Rattle.sql_create.specs.Goes.{Goes};
 ghost use Rattle.sql_create.specs.Texts.{add_bank_text};
@@ -31,9 +31,8 @@ fn cells_of(version: u64) -> Result<BankCells, Fault>
 }
 
 fn insert_bank<S: Alter>(tx: &mut Transaction<'_, S>, cells: &BankCells) -> Result<usize, Fault>
-    ensures same_reference { tx.new.conn.ghost_name ≡ tx.old.conn.ghost_name }
+    ensures frame { Frame S.Store tx.old.conn tx.new.conn }
     ensures runs { RunsInside add_bank_text (Int cells.now.policy ∷ []) (state S.Store tx.old.conn.now) (state S.Store tx.new.conn.now) result }
-    ensures survives { LeavesNone (state S.Store tx.old.conn.now) (state S.Store tx.new.conn.now) }
 {
     run(
         tx,
@@ -45,9 +44,8 @@ fn insert_bank<S: Alter>(tx: &mut Transaction<'_, S>, cells: &BankCells) -> Resu
 /// Writes the row of the bank, with the version of its policy, into tables that have no rows. A version
 /// of more than 63 bits is a fault of size.
 pub(crate) fn add_bank<S: Alter>(tx: &mut Transaction<'_, S>, version: u64) -> Result<(), Fault>
-    ensures same_reference { tx.new.conn.ghost_name ≡ tx.old.conn.ghost_name }
+    ensures frame { Frame S.Store tx.old.conn tx.new.conn }
     ensures goes { Goes (state S.Store tx.old.conn.now) (state S.Store tx.new.conn.now) (IsBlank bank_schema) (λ db. HoldsTables db (bare version)) result }
-    ensures survives { LeavesNone (state S.Store tx.old.conn.now) (state S.Store tx.new.conn.now) }
 {
     let cells = cells_of(version)?;
     insert_bank(tx, &cells)?;

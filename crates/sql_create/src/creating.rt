@@ -6,6 +6,7 @@ ghost use Rattle.sqlite.specs.State.{HasCleanDisk, KeepsCommit, Survives};
 ghost use Rattle.sql_schema.specs.Held.{AreOfWorld};
 ghost use Rattle.sql_create.specs.Blank.{no_schema};
 ghost use Rattle.sql_create.specs.Made.{IsBank, IsBeforehand, IsKeptAs, IsRefusal};
+ghost use Rattle.store_sql.specs.Bank.{KnowsNothing};
 
 use crate::making::make_bank;
 use crate::open_fault::OpenFault;
@@ -27,6 +28,7 @@ pub fn create<S: Alter>(
     ensures kept { IfOk result (λ store. HasCleanDisk (state S.Store store.conn) → IsKeptAs (state S.Store store.conn) world.now) }
     ensures open { IfOk result (λ store. HasCleanDisk (state S.Store store.conn) → IsTrue (state S.Store store.conn).is_open) }
     ensures works { IfOk result (λ store. (store.is_stopped ≡ false) × (store.faults ≡ 0) × (store.failures ≡ 0)) }
+    ensures known { IfOk result (λ store. KnowsNothing store.known) }
     ensures refused { IfErr result (λ e. IsRefusal (state S.Store conn).now.schema world.now e.0) }
     ensures untouched { IfErr result (λ e. IsBeforehand e.0 → e.1 ≡ conn) }
     ensures unmade { IfErr result (λ e. HasCleanDisk (state S.Store e.1) → KeepsCommit (state S.Store conn) (state S.Store e.1)) }

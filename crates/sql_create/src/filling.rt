@@ -1,10 +1,9 @@
 //! The rows of a World, written to tables that hold none.
 
 ghost use Rattle.std.specs.Prelude.{◌≡◌, map, IfOk};
-ghost use Rattle.sqlite.specs.Held.{state};
 ghost use Rattle.bank_books.specs.Records.{kept_of};
 ghost use Rattle.book_kept.specs.Records.{kept_user_of};
-ghost use Rattle.sql_schema.specs.Steps.{LeavesNone, Steps};
+ghost use Rattle.sql_schema.specs.Steps.{Step};
 ghost use Rattle.sql_create.specs.Filled.{filled, with_accounts, with_all, with_books, with_history, with_policy, with_rights, with_slips, with_user};
 
 use crate::sheet_row::add_all;
@@ -16,7 +15,7 @@ use money::Fault;
 use sqlite::{Alter, Transaction};
 use std::alloc::Global;
 
-/// A user with so many releases.
+/// A user with the number of their releases.
 fn kept_user(alloc: Global, user: &User, releases: u64) -> Result<KeptUser, Fault>
     ensures { IfOk result (λ kept. kept ≡ record { row = user.now; releases = releases }) }
 {
@@ -55,9 +54,7 @@ fn add_users<S: Alter>(
     kept: &Kept,
 ) -> Result<(), Fault>
     requires { kept.now ≡ kept_of world.now }
-    ensures same_reference { tx.new.conn.ghost_name ≡ tx.old.conn.ghost_name }
-    ensures steps { Steps (state S.Store tx.old.conn.now) (state S.Store tx.new.conn.now) (with_all with_user (map (kept_user_of world.now) world.now.policy.users)) result }
-    ensures survives { LeavesNone (state S.Store tx.old.conn.now) (state S.Store tx.new.conn.now) }
+    ensures step { Step S.Store tx.old.conn tx.new.conn (with_all with_user (map (kept_user_of world.now) world.now.policy.users)) result }
 {
     let users = kept_users(alloc, world, kept)?;
     add_all(tx, &users)
@@ -65,9 +62,7 @@ fn add_users<S: Alter>(
 
 /// The relations before the triples, each of which is of one of them.
 fn add_rights<S: Alter>(tx: &mut Transaction<'_, S>, policy: &Policy) -> Result<(), Fault>
-    ensures same_reference { tx.new.conn.ghost_name ≡ tx.old.conn.ghost_name }
-    ensures steps { Steps (state S.Store tx.old.conn.now) (state S.Store tx.new.conn.now) (with_rights policy.now) result }
-    ensures survives { LeavesNone (state S.Store tx.old.conn.now) (state S.Store tx.new.conn.now) }
+    ensures step { Step S.Store tx.old.conn tx.new.conn (with_rights policy.now) result }
 {
     add_all(tx, policy.relations())?;
     add_all(tx, policy.triples())?;
@@ -81,9 +76,7 @@ fn add_policy<S: Alter>(
     kept: &Kept,
 ) -> Result<(), Fault>
     requires { kept.now ≡ kept_of world.now }
-    ensures same_reference { tx.new.conn.ghost_name ≡ tx.old.conn.ghost_name }
-    ensures steps { Steps (state S.Store tx.old.conn.now) (state S.Store tx.new.conn.now) (with_policy world.now) result }
-    ensures survives { LeavesNone (state S.Store tx.old.conn.now) (state S.Store tx.new.conn.now) }
+    ensures step { Step S.Store tx.old.conn tx.new.conn (with_policy world.now) result }
 {
     let policy = world.policy();
     add_users(alloc, tx, world, kept)?;
@@ -92,18 +85,14 @@ fn add_policy<S: Alter>(
 }
 
 fn add_accounts<S: Alter>(tx: &mut Transaction<'_, S>, kept: &Kept) -> Result<(), Fault>
-    ensures same_reference { tx.new.conn.ghost_name ≡ tx.old.conn.ghost_name }
-    ensures steps { Steps (state S.Store tx.old.conn.now) (state S.Store tx.new.conn.now) (with_accounts kept.now) result }
-    ensures survives { LeavesNone (state S.Store tx.old.conn.now) (state S.Store tx.new.conn.now) }
+    ensures step { Step S.Store tx.old.conn tx.new.conn (with_accounts kept.now) result }
 {
     add_all(tx, kept.accounts())?;
     add_all(tx, kept.entries())
 }
 
 fn add_books<S: Alter>(tx: &mut Transaction<'_, S>, kept: &Kept) -> Result<(), Fault>
-    ensures same_reference { tx.new.conn.ghost_name ≡ tx.old.conn.ghost_name }
-    ensures steps { Steps (state S.Store tx.old.conn.now) (state S.Store tx.new.conn.now) (with_books kept.now) result }
-    ensures survives { LeavesNone (state S.Store tx.old.conn.now) (state S.Store tx.new.conn.now) }
+    ensures step { Step S.Store tx.old.conn tx.new.conn (with_books kept.now) result }
 {
     add_all(tx, kept.branches())?;
     add_all(tx, kept.tellers())?;
@@ -111,9 +100,7 @@ fn add_books<S: Alter>(tx: &mut Transaction<'_, S>, kept: &Kept) -> Result<(), F
 }
 
 fn add_history<S: Alter>(tx: &mut Transaction<'_, S>, world: &World) -> Result<(), Fault>
-    ensures same_reference { tx.new.conn.ghost_name ≡ tx.old.conn.ghost_name }
-    ensures steps { Steps (state S.Store tx.old.conn.now) (state S.Store tx.new.conn.now) (with_history world.now) result }
-    ensures survives { LeavesNone (state S.Store tx.old.conn.now) (state S.Store tx.new.conn.now) }
+    ensures step { Step S.Store tx.old.conn tx.new.conn (with_history world.now) result }
 {
     add_all(tx, world.lines())?;
     add_all(tx, world.proofs())?;
@@ -122,9 +109,7 @@ fn add_history<S: Alter>(tx: &mut Transaction<'_, S>, world: &World) -> Result<(
 
 /// The slips, and how many each user has.
 fn add_slips<S: Alter>(tx: &mut Transaction<'_, S>, world: &World, kept: &Kept) -> Result<(), Fault>
-    ensures same_reference { tx.new.conn.ghost_name ≡ tx.old.conn.ghost_name }
-    ensures steps { Steps (state S.Store tx.old.conn.now) (state S.Store tx.new.conn.now) (with_slips world.now kept.now) result }
-    ensures survives { LeavesNone (state S.Store tx.old.conn.now) (state S.Store tx.new.conn.now) }
+    ensures step { Step S.Store tx.old.conn tx.new.conn (with_slips world.now kept.now) result }
 {
     add_all(tx, world.slips())?;
     add_all(tx, kept.users())
@@ -138,9 +123,7 @@ pub(crate) fn fill<S: Alter>(
     kept: &Kept,
 ) -> Result<(), Fault>
     requires { kept.now ≡ kept_of world.now }
-    ensures same_reference { tx.new.conn.ghost_name ≡ tx.old.conn.ghost_name }
-    ensures steps { Steps (state S.Store tx.old.conn.now) (state S.Store tx.new.conn.now) (filled world.now) result }
-    ensures survives { LeavesNone (state S.Store tx.old.conn.now) (state S.Store tx.new.conn.now) }
+    ensures step { Step S.Store tx.old.conn tx.new.conn (filled world.now) result }
 {
     add_policy(alloc, tx, world, kept)?;
     add_books(tx, kept)?;

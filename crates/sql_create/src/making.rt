@@ -1,12 +1,12 @@
 //! A bank made of a World in one transaction, in a database that is empty.
 
-ghost use Rattle.std.specs.Prelude.{◌≡◌, ◌↔◌, false, ℕ, IfErr, IfOk, IsTrue, OnErr, OnOk};
+ghost use Rattle.std.specs.Prelude.{◌≡◌, ◌↔◌, false, IfErr, IsTrue, OnErr, OnOk};
 ghost use Rattle.sqlite.specs.Held.{state};
 ghost use Rattle.sqlite.specs.State.{HasCleanDisk, KeepsCommit, Survives};
 ghost use Rattle.bank_books.specs.Records.{kept_of};
 ghost use Rattle.book_kept.specs.Keepable.{IsKeepable};
 ghost use Rattle.sql_schema.specs.Held.{AreOfWorld, HoldsBank, HoldsWorld};
-ghost use Rattle.sql_schema.specs.Steps.{LeavesNone};
+ghost use Rattle.sql_schema.specs.Steps.{Frame};
 ghost use Rattle.sql_create.specs.Blank.{IsBlank, no_schema};
 ghost use Rattle.sql_create.specs.Goes.{Goes};
 ghost use Rattle.sql_create.specs.Made.{IsBank, IsBeforehand, IsRefusal};
@@ -40,9 +40,8 @@ pub fn write_bank<S: Alter>(
 ) -> Result<(), Fault>
     requires kept { kept.now ≡ kept_of world.now }
     requires keepable { IsKeepable world.now }
-    ensures same_reference { tx.new.conn.ghost_name ≡ tx.old.conn.ghost_name }
+    ensures frame { Frame S.Store tx.old.conn tx.new.conn }
     ensures goes { Goes (state S.Store tx.old.conn.now) (state S.Store tx.new.conn.now) (IsBlank no_schema) (λ db. HoldsWorld db world.now) result }
-    ensures survives { LeavesNone (state S.Store tx.old.conn.now) (state S.Store tx.new.conn.now) }
 {
     make_tables(tx)?;
     add_bank(tx, world.version())?;

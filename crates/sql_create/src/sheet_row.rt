@@ -1,9 +1,7 @@
 //! How rows are written to the tables of a new bank, whatever table they are of.
 
-ghost use Rattle.std.specs.Prelude.{◌≡◌};
-ghost use Rattle.sqlite.specs.Held.{state};
 ghost use Rattle.book_kept.specs.Sheets.{Sheets};
-ghost use Rattle.sql_schema.specs.Steps.{LeavesNone, Steps};
+ghost use Rattle.sql_schema.specs.Steps.{Step};
 ghost use Rattle.sql_create.specs.Filled.{with_all};
 
 use money::Fault;
@@ -16,9 +14,7 @@ pub(crate) trait SheetRow {
 
     /// Writes it inside a transaction. A row of its key that is there already is a fault of the disk.
     fn add<S: Alter>(&self, tx: &mut Transaction<'_, S>) -> Result<(), Fault>
-        ensures same_reference { tx.new.conn.ghost_name ≡ tx.old.conn.ghost_name }
-        ensures steps { Steps (state S.Store tx.old.conn.now) (state S.Store tx.new.conn.now) (with_it self.now) result }
-        ensures survives { LeavesNone (state S.Store tx.old.conn.now) (state S.Store tx.new.conn.now) };
+        ensures step { Step S.Store tx.old.conn tx.new.conn (with_it self.now) result };
 }
 
 /// Writes these rows, one after another.
@@ -26,9 +22,7 @@ pub(crate) fn add_all<S: Alter, R: SheetRow>(
     tx: &mut Transaction<'_, S>,
     rows: &[R],
 ) -> Result<(), Fault>
-    ensures same_reference { tx.new.conn.ghost_name ≡ tx.old.conn.ghost_name }
-    ensures steps { Steps (state S.Store tx.old.conn.now) (state S.Store tx.new.conn.now) (with_all R.with_it rows.now) result }
-    ensures survives { LeavesNone (state S.Store tx.old.conn.now) (state S.Store tx.new.conn.now) }
+    ensures step { Step S.Store tx.old.conn tx.new.conn (with_all R.with_it rows.now) result }
 {
     for row in rows {
         row.add(tx)?;

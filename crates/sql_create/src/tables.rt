@@ -1,11 +1,11 @@
 //! The tables and indexes of a bank's file, made in a database that has none.
 
-ghost use Rattle.std.specs.Prelude.{◌≡◌, [], ℕ, IsTrue, Ok, OnOk};
+ghost use Rattle.std.specs.Prelude.{[], ℕ, IsTrue, Ok, OnOk};
 ghost use Rattle.sqlite.specs.Held.{state};
 ghost use Rattle.sqlite.specs.State.{Executes, HasCleanDisk, KeepsCommit};
 ghost use Rattle.sql_create.specs.Blank.{IsBlank, begun};
 ghost use Rattle.sql_create.specs.Goes.{Goes};
-ghost use Rattle.sql_schema.specs.Steps.{LeavesNone};
+ghost use Rattle.sql_schema.specs.Steps.{Frame};
 
 use money::Fault;
 use sql_schema::run;
@@ -13,10 +13,9 @@ use sqlite::{Alter, Transaction, params};
 
 /// Runs the text of a definition, such as one that makes a table or takes one away.
 pub fn define<S: Alter>(tx: &mut Transaction<'_, S>, sql: &str) -> Result<(), Fault>
-    ensures same_reference { tx.new.conn.ghost_name ≡ tx.old.conn.ghost_name }
+    ensures frame { Frame S.Store tx.old.conn tx.new.conn }
     ensures ran { HasCleanDisk (state S.Store tx.new.conn.now) → IsTrue (state S.Store tx.old.conn.now).in_transaction → OnOk result (IsTrue (state S.Store tx.new.conn.now).in_transaction × (count : ℕ) × Executes sql.now [] (state S.Store tx.old.conn.now) (state S.Store tx.new.conn.now) (Ok count)) × KeepsCommit (state S.Store tx.old.conn.now) (state S.Store tx.new.conn.now) }
     ensures open { HasCleanDisk (state S.Store tx.new.conn.now) → IsTrue (state S.Store tx.old.conn.now).in_transaction → OnOk result (IsTrue (state S.Store tx.old.conn.now).is_open) }
-    ensures survives { LeavesNone (state S.Store tx.old.conn.now) (state S.Store tx.new.conn.now) }
 {
     run(tx, sql, params![])?;
     Ok(())
@@ -24,9 +23,8 @@ pub fn define<S: Alter>(tx: &mut Transaction<'_, S>, sql: &str) -> Result<(), Fa
 
 /// The tables of the bank, of users, and of sets with their members.
 fn make_bank_and_sets<S: Alter>(tx: &mut Transaction<'_, S>) -> Result<(), Fault>
-    ensures same_reference { tx.new.conn.ghost_name ≡ tx.old.conn.ghost_name }
+    ensures frame { Frame S.Store tx.old.conn tx.new.conn }
     ensures goes { Goes (state S.Store tx.old.conn.now) (state S.Store tx.new.conn.now) (IsBlank (begun 0 0)) (IsBlank (begun 4 1)) result }
-    ensures survives { LeavesNone (state S.Store tx.old.conn.now) (state S.Store tx.new.conn.now) }
 {
     define(
         tx,
@@ -45,9 +43,8 @@ fn make_bank_and_sets<S: Alter>(tx: &mut Transaction<'_, S>) -> Result<(), Fault
 
 /// The tables of relations, triples and certifiers.
 fn make_rights<S: Alter>(tx: &mut Transaction<'_, S>) -> Result<(), Fault>
-    ensures same_reference { tx.new.conn.ghost_name ≡ tx.old.conn.ghost_name }
+    ensures frame { Frame S.Store tx.old.conn tx.new.conn }
     ensures goes { Goes (state S.Store tx.old.conn.now) (state S.Store tx.new.conn.now) (IsBlank (begun 4 1)) (IsBlank (begun 7 4)) result }
-    ensures survives { LeavesNone (state S.Store tx.old.conn.now) (state S.Store tx.new.conn.now) }
 {
     define(
         tx,
@@ -65,9 +62,8 @@ fn make_rights<S: Alter>(tx: &mut Transaction<'_, S>) -> Result<(), Fault>
 
 /// The tables of branches, tellers, accounts and entries.
 fn make_books<S: Alter>(tx: &mut Transaction<'_, S>) -> Result<(), Fault>
-    ensures same_reference { tx.new.conn.ghost_name ≡ tx.old.conn.ghost_name }
+    ensures frame { Frame S.Store tx.old.conn tx.new.conn }
     ensures goes { Goes (state S.Store tx.old.conn.now) (state S.Store tx.new.conn.now) (IsBlank (begun 7 4)) (IsBlank (begun 11 6)) result }
-    ensures survives { LeavesNone (state S.Store tx.old.conn.now) (state S.Store tx.new.conn.now) }
 {
     define(
         tx,
@@ -89,9 +85,8 @@ fn make_books<S: Alter>(tx: &mut Transaction<'_, S>) -> Result<(), Fault>
 
 /// The tables of lines, proofs and releases.
 fn make_history<S: Alter>(tx: &mut Transaction<'_, S>) -> Result<(), Fault>
-    ensures same_reference { tx.new.conn.ghost_name ≡ tx.old.conn.ghost_name }
+    ensures frame { Frame S.Store tx.old.conn tx.new.conn }
     ensures goes { Goes (state S.Store tx.old.conn.now) (state S.Store tx.new.conn.now) (IsBlank (begun 11 6)) (IsBlank (begun 14 9)) result }
-    ensures survives { LeavesNone (state S.Store tx.old.conn.now) (state S.Store tx.new.conn.now) }
 {
     define(
         tx,
@@ -109,9 +104,8 @@ fn make_history<S: Alter>(tx: &mut Transaction<'_, S>) -> Result<(), Fault>
 
 /// The indexes by which rows are looked up that no key finds, after the tables of earlier schema versions.
 fn make_indexes<S: Alter>(tx: &mut Transaction<'_, S>) -> Result<(), Fault>
-    ensures same_reference { tx.new.conn.ghost_name ≡ tx.old.conn.ghost_name }
+    ensures frame { Frame S.Store tx.old.conn tx.new.conn }
     ensures goes { Goes (state S.Store tx.old.conn.now) (state S.Store tx.new.conn.now) (IsBlank (begun 14 9)) (IsBlank (begun 14 11)) result }
-    ensures survives { LeavesNone (state S.Store tx.old.conn.now) (state S.Store tx.new.conn.now) }
 {
     define(
         tx,
@@ -125,9 +119,8 @@ fn make_indexes<S: Alter>(tx: &mut Transaction<'_, S>) -> Result<(), Fault>
 
 /// The tables of slips and of how many each user has, after all others.
 fn make_slips<S: Alter>(tx: &mut Transaction<'_, S>) -> Result<(), Fault>
-    ensures same_reference { tx.new.conn.ghost_name ≡ tx.old.conn.ghost_name }
+    ensures frame { Frame S.Store tx.old.conn tx.new.conn }
     ensures goes { Goes (state S.Store tx.old.conn.now) (state S.Store tx.new.conn.now) (IsBlank (begun 14 11)) (IsBlank (begun 16 12)) result }
-    ensures survives { LeavesNone (state S.Store tx.old.conn.now) (state S.Store tx.new.conn.now) }
 {
     define(
         tx,
@@ -141,9 +134,8 @@ fn make_slips<S: Alter>(tx: &mut Transaction<'_, S>) -> Result<(), Fault>
 
 /// All tables of a bank's file with its indexes, with no rows.
 pub(crate) fn make_tables<S: Alter>(tx: &mut Transaction<'_, S>) -> Result<(), Fault>
-    ensures same_reference { tx.new.conn.ghost_name ≡ tx.old.conn.ghost_name }
+    ensures frame { Frame S.Store tx.old.conn tx.new.conn }
     ensures goes { Goes (state S.Store tx.old.conn.now) (state S.Store tx.new.conn.now) (IsBlank (begun 0 0)) (IsBlank (begun 16 12)) result }
-    ensures survives { LeavesNone (state S.Store tx.old.conn.now) (state S.Store tx.new.conn.now) }
 {
     make_bank_and_sets(tx)?;
     make_rights(tx)?;

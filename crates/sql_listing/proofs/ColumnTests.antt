@@ -16,26 +16,26 @@ use Rattle.sql_listing.specs.declared.columns.Columns.{Columns}
 
 -- ---- operators
 
-abbrev told : Bool → Value
-told b = from_truth (Some b)
+abbrev stated : Bool → Value
+stated b = from_truth (Some b)
 
-told_back : (b : Bool) → is_true (told b) ≡ b
-told_back true = refl
-told_back false = refl
+stated_back : (b : Bool) → is_true (stated b) ≡ b
+stated_back true = refl
+stated_back false = refl
 
-either_told : (p q : Bool) → binary Or (told p) (told q) ≡ told (p || q)
+either_of_test : (p q : Bool) → binary Or (stated p) (stated q) ≡ stated (p || q)
 unfolding binary
-either_told true true = refl
-either_told true false = refl
-either_told false true = refl
-either_told false false = refl
+either_of_test true true = refl
+either_of_test true false = refl
+either_of_test false true = refl
+either_of_test false false = refl
 
-both_told : (p q : Bool) → binary And (told p) (told q) ≡ told (p && q)
+both_of_test : (p q : Bool) → binary And (stated p) (stated q) ≡ stated (p && q)
 unfolding binary
-both_told true true = refl
-both_told true false = refl
-both_told false true = refl
-both_told false false = refl
+both_of_test true true = refl
+both_of_test true false = refl
+both_of_test false true = refl
+both_of_test false false = refl
 
 abbrev above : ℕ → ℤ → Bool
 above m n = is_gt (int_cmp (pos m) n)
@@ -46,17 +46,17 @@ from m n = is_ge (int_cmp (pos m) n)
 abbrev same : ℕ → ℤ → Bool
 same m n = is_eq (int_cmp (pos m) n)
 
-above_told : (m : ℕ) (n : ℤ) → binary (Compare Gt Binary) (Int (pos m)) (Int n) ≡ told (above m n)
+above_of_test : (m : ℕ) (n : ℤ) → binary (Compare Gt Binary) (Int (pos m)) (Int n) ≡ stated (above m n)
 unfolding binary
-above_told m n = ap (λ o. told (is_gt o)) (value_cmp-Int (pos m) n)
+above_of_test m n = ap (λ o. stated (is_gt o)) (value_cmp-Int (pos m) n)
 
-from_told : (m : ℕ) (n : ℤ) → binary (Compare Ge Binary) (Int (pos m)) (Int n) ≡ told (from m n)
+from_of_test : (m : ℕ) (n : ℤ) → binary (Compare Ge Binary) (Int (pos m)) (Int n) ≡ stated (from m n)
 unfolding binary
-from_told m n = ap (λ o. told (is_ge o)) (value_cmp-Int (pos m) n)
+from_of_test m n = ap (λ o. stated (is_ge o)) (value_cmp-Int (pos m) n)
 
-same_told : (m : ℕ) (n : ℤ) → binary (Compare Eq Binary) (Int (pos m)) (Int n) ≡ told (same m n)
+same_of_test : (m : ℕ) (n : ℤ) → binary (Compare Eq Binary) (Int (pos m)) (Int n) ≡ stated (same m n)
 unfolding binary
-same_told m n = ap (λ o. told (is_eq o)) (value_cmp-Int (pos m) n)
+same_of_test m n = ap (λ o. stated (is_eq o)) (value_cmp-Int (pos m) n)
 
 -- ---- numbers
 
@@ -91,16 +91,16 @@ two_asked a b l m = binary Or (one_asked a l) (binary And (binary (Compare Eq Bi
 abbrev three_asked : ℕ → ℕ → ℕ → ℤ → ℤ → ℤ → Value
 three_asked a b c l m n = binary Or (one_asked a l) (binary And (binary (Compare Eq Binary) (Int (pos a)) (Int l)) (two_asked b c m n))
 
-two_told : (a b : ℕ) (l m : ℤ) → two_asked a b l m ≡ told (above a l || (same a l && above b m))
-two_told a b l m =
-    let right : binary And (binary (Compare Eq Binary) (Int (pos a)) (Int l)) (one_asked b m) ≡ told (same a l && above b m) = (λ i. binary And (same_told a l i) (above_told b m i)) ∙ both_told (same a l) (above b m) in
-    (λ i. binary Or (above_told a l i) (right i)) ∙ either_told (above a l) (same a l && above b m)
+two_of_test : (a b : ℕ) (l m : ℤ) → two_asked a b l m ≡ stated (above a l || (same a l && above b m))
+two_of_test a b l m =
+    let right : binary And (binary (Compare Eq Binary) (Int (pos a)) (Int l)) (one_asked b m) ≡ stated (same a l && above b m) = (λ i. binary And (same_of_test a l i) (above_of_test b m i)) ∙ both_of_test (same a l) (above b m) in
+    (λ i. binary Or (above_of_test a l i) (right i)) ∙ either_of_test (above a l) (same a l && above b m)
 
-three_told : (a b c : ℕ) (l m n : ℤ) → three_asked a b c l m n ≡ told (above a l || (same a l && (above b m || (same b m && above c n))))
-three_told a b c l m n =
+three_of_test : (a b c : ℕ) (l m n : ℤ) → three_asked a b c l m n ≡ stated (above a l || (same a l && (above b m || (same b m && above c n))))
+three_of_test a b c l m n =
     let rest = above b m || (same b m && above c n) in
-    let right : binary And (binary (Compare Eq Binary) (Int (pos a)) (Int l)) (two_asked b c m n) ≡ told (same a l && rest) = (λ i. binary And (same_told a l i) (two_told b c m n i)) ∙ both_told (same a l) rest in
-    (λ i. binary Or (above_told a l i) (right i)) ∙ either_told (above a l) (same a l && rest)
+    let right : binary And (binary (Compare Eq Binary) (Int (pos a)) (Int l)) (two_asked b c m n) ≡ stated (same a l && rest) = (λ i. binary And (same_of_test a l i) (two_of_test b c m n i)) ∙ both_of_test (same a l) rest in
+    (λ i. binary Or (above_of_test a l i) (right i)) ∙ either_of_test (above a l) (same a l && rest)
 
 above_none : (a : ℕ) → above a (negsuc 0) ≡ true
 above_none a = grind (arith, nat_tests)
@@ -118,21 +118,21 @@ abbrev from_and : (o : Option Columns) (n : ℤ) (a : ℕ) → Bool → Bool
 from_and o n a rest = is_true (from_asked a (part_of o n).first) && rest
 
 from_no_row : (n : ℤ) (a : ℕ) (b : Bool) → from_and None n a b ≡ b
-from_no_row n a b = ap (λ t. t && b) (ap is_true (from_told a (negsuc 0)) ∙ told_back _ ∙ from_none a)
+from_no_row n a b = ap (λ t. t && b) (ap is_true (from_of_test a (negsuc 0)) ∙ stated_back _ ∙ from_none a)
 
 from_row : (k : Columns) (n : ℤ) (a : ℕ) (b : Bool) → from_and (Some k) n a (nat_lt k.first a || (k.first == a && b)) ≡ (nat_lt k.first a || (k.first == a && b))
-from_row k n a b = ap (λ t. t && (nat_lt k.first a || (k.first == a && b))) (ap is_true (from_told a (pos k.first)) ∙ told_back _ ∙ from_is a k.first) ∙ not_before k.first a b
+from_row k n a b = ap (λ t. t && (nat_lt k.first a || (k.first == a && b))) (ap is_true (from_of_test a (pos k.first)) ∙ stated_back _ ∙ from_is a k.first) ∙ not_before k.first a b
 
 pub past_one : (o : Option Columns) (n : ℤ) (a : ℕ) → (is_true (one_asked a (part_of o n).first) && true) ≡ are_past o (record { first = a; second = 0; third = 0 })
-past_one None n a = and-true _ ∙ ap is_true (above_told a (negsuc 0)) ∙ told_back _ ∙ above_none a
+past_one None n a = and-true _ ∙ ap is_true (above_of_test a (negsuc 0)) ∙ stated_back _ ∙ above_none a
 past_one (Some k) n a =
-    and-true _ ∙ ap is_true (above_told a (pos k.first)) ∙ told_back _ ∙ above_is a k.first
+    and-true _ ∙ ap is_true (above_of_test a (pos k.first)) ∙ stated_back _ ∙ above_is a k.first
     ∙ sym ((λ i. nat_lt k.first a || (k.first == a && (none_below k.second i || (k.second == 0 && none_below k.third i)))) ∙ ap (λ b. nat_lt k.first a || b) (never (k.first == a) (k.second == 0)) ∙ or-false (nat_lt k.first a))
 
 two_past : (o : Option Columns) (n : ℤ) (a b : ℕ) → (is_true (two_asked a b (part_of o n).first (pos (part_of o n).second)) && true) ≡ are_past o (record { first = a; second = b; third = 0 })
-two_past None n a b = and-true _ ∙ ap is_true (two_told a b (negsuc 0) (pos 0)) ∙ told_back _ ∙ ap (λ t. t || (same a (negsuc 0) && above b (pos 0))) (above_none a)
+two_past None n a b = and-true _ ∙ ap is_true (two_of_test a b (negsuc 0) (pos 0)) ∙ stated_back _ ∙ ap (λ t. t || (same a (negsuc 0) && above b (pos 0))) (above_none a)
 two_past (Some k) n a b =
-    and-true _ ∙ ap is_true (two_told a b (pos k.first) (pos k.second)) ∙ told_back _ ∙ (λ i. above_is a k.first i || (same_is a k.first i && above_is b k.second i))
+    and-true _ ∙ ap is_true (two_of_test a b (pos k.first) (pos k.second)) ∙ stated_back _ ∙ (λ i. above_is a k.first i || (same_is a k.first i && above_is b k.second i))
     ∙ sym ((λ i. nat_lt k.first a || (k.first == a && (nat_lt k.second b || (k.second == b && none_below k.third i)))) ∙ (λ i. nat_lt k.first a || (k.first == a && (ap (λ t. nat_lt k.second b || t) (and-false (k.second == b)) ∙ or-false (nat_lt k.second b)) i)))
 
 pub past_two : (o : Option Columns) (n : ℤ) (a b : ℕ) → from_and o n a (is_true (two_asked a b (part_of o n).first (pos (part_of o n).second)) && true) ≡ are_past o (record { first = a; second = b; third = 0 })
@@ -140,9 +140,9 @@ past_two None n a b = ap (from_and None n a) (two_past None n a b) ∙ from_no_r
 past_two (Some k) n a b = ap (from_and (Some k) n a) (two_past (Some k) n a b) ∙ from_row k n a (nat_lt k.second b || (k.second == b && nat_lt k.third 0))
 
 three_past : (o : Option Columns) (n : ℤ) (a b c : ℕ) → (is_true (three_asked a b c (part_of o n).first (pos (part_of o n).second) (pos (part_of o n).third)) && true) ≡ are_past o (record { first = a; second = b; third = c })
-three_past None n a b c = and-true _ ∙ ap is_true (three_told a b c (negsuc 0) (pos 0) (pos 0)) ∙ told_back _ ∙ ap (λ t. t || (same a (negsuc 0) && (above b (pos 0) || (same b (pos 0) && above c (pos 0))))) (above_none a)
+three_past None n a b c = and-true _ ∙ ap is_true (three_of_test a b c (negsuc 0) (pos 0) (pos 0)) ∙ stated_back _ ∙ ap (λ t. t || (same a (negsuc 0) && (above b (pos 0) || (same b (pos 0) && above c (pos 0))))) (above_none a)
 three_past (Some k) n a b c =
-    and-true _ ∙ ap is_true (three_told a b c (pos k.first) (pos k.second) (pos k.third)) ∙ told_back _
+    and-true _ ∙ ap is_true (three_of_test a b c (pos k.first) (pos k.second) (pos k.third)) ∙ stated_back _
     ∙ (λ i. above_is a k.first i || (same_is a k.first i && (above_is b k.second i || (same_is b k.second i && above_is c k.third i))))
 
 pub past_three : (o : Option Columns) (n : ℤ) (a b c : ℕ) → from_and o n a (is_true (three_asked a b c (part_of o n).first (pos (part_of o n).second) (pos (part_of o n).third)) && true) ≡ are_past o (record { first = a; second = b; third = c })

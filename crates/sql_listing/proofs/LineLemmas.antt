@@ -17,7 +17,7 @@ use Rattle.sql_schema.specs.Held.Sheet.{members as in_members, relations as in_r
 use Rattle.sql_schema.proofs.PickedRows.{first_of_one}
 use Rattle.world_reads.specs.declared.policy_row.PolicyRow.{PolicyRow}
 use Rattle.sql_listing.specs.Columns.{at_most, is_past, or_first}
-use Rattle.sql_listing.specs.Lines.{FitsOf, RowOf, cells_of, following, line_of, lines_behind, lines_from, lines_in, rows_of}
+use Rattle.sql_listing.specs.Lines.{FitsOf, RowOf, cells_of, following, line_of, lines_after, lines_from, lines_in, rows_of}
 use Rattle.sql_listing.specs.declared.columns.Columns.{Columns}
 use Rattle.sql_listing.specs.declared.kinds.LineKind.{LineKind}
 use Rattle.sql_listing.specs.declared.kinds.LineKind.TheVariants as kind
@@ -95,22 +95,22 @@ pub first_of_all : (xs ys : List PolicyRow) → or_first (find (λ _. true) xs) 
 first_of_all [] ys = refl
 first_of_all (x ∷ xs) ys = refl
 
-behind_last : (s : Sheets) → lines_in s kind.Triple ++ [] ≡ lines_in s kind.Triple
-behind_last s = append-nil (lines_in s kind.Triple)
+after_last : (s : Sheets) → lines_in s kind.Triple ++ [] ≡ lines_in s kind.Triple
+after_last s = append-nil (lines_in s kind.Triple)
 
 the_kind : (a b : LineKind) → ◌≡◌ {A = Option LineKind} (Some a) (Some b) → a ≡ b
 the_kind a b e = cc
 
-pub from_next : (s : Sheets) (k next : LineKind) → ◌≡◌ {A = Option LineKind} (Some next) (following k) → lines_from s next ≡ lines_behind s k
+pub from_next : (s : Sheets) (k next : LineKind) → ◌≡◌ {A = Option LineKind} (Some next) (following k) → lines_from s next ≡ lines_after s k
 from_next s kind.User next is = ap (lines_from s) (the_kind next kind.Certifier is)
 from_next s kind.Certifier next is = ap (lines_from s) (the_kind next kind.Member is)
 from_next s kind.Member next is = ap (lines_from s) (the_kind next kind.Relation is)
-from_next s kind.Relation next is = ap (lines_from s) (the_kind next kind.Triple is) ∙ behind_last s
+from_next s kind.Relation next is = ap (lines_from s) (the_kind next kind.Triple is) ∙ after_last s
 from_next s kind.Triple next is = absurd cc
 
 -- the first line of the kinds after one is that of the next kind, or else of those after that
-pub first_behind : (s : Sheets) (k next : LineKind) → ◌≡◌ {A = Option LineKind} (Some next) (following k) → or_first (find (is_past None) (lines_in s next)) (lines_behind s next) ≡ slice_get (lines_behind s k) 0
-first_behind s k next is = first_of_all (lines_in s next) (lines_behind s next) ∙ ap (λ l. slice_get l 0) (from_next s k next is)
+pub first_after : (s : Sheets) (k next : LineKind) → ◌≡◌ {A = Option LineKind} (Some next) (following k) → or_first (find (is_past None) (lines_in s next)) (lines_after s next) ≡ slice_get (lines_after s k) 0
+first_after s k next is = first_of_all (lines_in s next) (lines_after s next) ∙ ap (λ l. slice_get l 0) (from_next s k next is)
 
 -- how many kinds are still to come
 abbrev pub left_of : LineKind → ℕ

@@ -14,12 +14,12 @@ use Rattle.book_kept.specs.declared.records.MemberRow.{MemberRow}
 use Rattle.sql_schema.specs.Held.{HoldsTables}
 use Rattle.sql_schema.specs.Held.Sheet.{members as in_members, relations as in_relations, triples as in_triples}
 use Rattle.bank_terms.proofs.Procedures.{small_number}
-use Rattle.world_reads.specs.PolicyListing.{is_row_behind}
+use Rattle.world_reads.specs.PolicyListing.{is_row_after}
 use Rattle.world_reads.specs.declared.policy_row.PolicyKey.{PolicyKey}
 use Rattle.world_reads.specs.declared.policy_row.PolicyKey.TheVariants as key
 use Rattle.world_reads.specs.declared.policy_row.PolicyRow.{PolicyRow}
 use Rattle.sql_listing.specs.Columns.{FitsKey, key_columns, is_less, is_past, key_kind, or_first}
-use Rattle.sql_listing.specs.Lines.{line_of, lines_behind, lines_in, lines_of}
+use Rattle.sql_listing.specs.Lines.{line_of, lines_after, lines_in, lines_of}
 use Rattle.sql_listing.specs.declared.kinds.LineKind.TheVariants as kind
 use Rattle.std.proofs.Math.Bool.{and-false, or-false}
 use Rattle.sql_listing.proofs.LineLemmas.{first_of_all}
@@ -111,48 +111,48 @@ module _ (s : Sheets) where
         → Follow p (certifiers ++ (members ++ (relations ++ triples)))
     from_certifiers c m r t = every_one_and (line_of kind.Certifier) p s.certifiers (members ++ (relations ++ triples)) c (from_members m r t)
 
-  abbrev behind : PolicyKey → PolicyRow → Bool
-  behind k = is_row_behind (Some k)
+  abbrev kinds_after : PolicyKey → PolicyRow → Bool
+  kinds_after k = is_row_after (Some k)
 
   abbrev found : PolicyKey → Option PolicyRow
-  found k = or_first (find (is_past (Some (key_columns k))) (lines_in s (key_kind k))) (lines_behind s (key_kind k))
+  found k = or_first (find (is_past (Some (key_columns k))) (lines_in s (key_kind k))) (lines_after s (key_kind k))
 
   -- the line after a key is the first of its kind after its columns, or else the first of the kinds that follow
-  pub next_is : (db : Database) → HoldsTables db s → (k : PolicyKey) → FitsKey k → found k ≡ find (behind k) (lines_of s)
+  pub next_is : (db : Database) → HoldsTables db s → (k : PolicyKey) → FitsKey k → found k ≡ find (kinds_after k) (lines_of s)
   next_is db holds (key.User user) fits =
       let k : PolicyKey = key.User user in
-      some_one_and (line_of kind.User) (behind k) (is_past (Some (key_columns k))) s.users _ (λ u there. by_one user u.row.user) (from_certifiers (behind k) (λ c. refl) (λ m. refl) (λ r. refl) (λ t. refl))
+      some_one_and (line_of kind.User) (kinds_after k) (is_past (Some (key_columns k))) s.users _ (λ u there. by_one user u.row.user) (from_certifiers (kinds_after k) (λ c. refl) (λ m. refl) (λ r. refl) (λ t. refl))
   next_is db holds (key.Certifier user procedure) fits =
       let k : PolicyKey = key.Certifier user procedure in
-      some_one_and (line_of kind.Certifier) (behind k) (is_past (Some (key_columns k))) s.certifiers _ (λ c there. by_two user (number_of procedure) c.user (number_of c.procedure) (small_number procedure) (small_number c.procedure))
-      (from_members (behind k) (λ m. refl) (λ r. refl) (λ t. refl))
-      ∙ sym (no_one_and (line_of kind.User) (behind k) s.users (certifiers ++ (members ++ (relations ++ triples))) (λ u. refl))
+      some_one_and (line_of kind.Certifier) (kinds_after k) (is_past (Some (key_columns k))) s.certifiers _ (λ c there. by_two user (number_of procedure) c.user (number_of c.procedure) (small_number procedure) (small_number c.procedure))
+      (from_members (kinds_after k) (λ m. refl) (λ r. refl) (λ t. refl))
+      ∙ sym (no_one_and (line_of kind.User) (kinds_after k) s.users (certifiers ++ (members ++ (relations ++ triples))) (λ u. refl))
   next_is db holds (key.Member set place) fits =
       let k : PolicyKey = key.Member set place in
-      some_one_and (line_of kind.Member) (behind k) (is_past (Some (key_columns k))) s.members _ (λ m there. by_place set place m.set m.place fits ((holds.rows in_members).fit m there))
-      (from_relations (behind k) (λ r. refl) (λ t. refl))
-      ∙ sym (no_one_and (line_of kind.User) (behind k) s.users (certifiers ++ (members ++ (relations ++ triples))) (λ u. refl)
-      ∙ no_one_and (line_of kind.Certifier) (behind k) s.certifiers (members ++ (relations ++ triples)) (λ c. refl))
+      some_one_and (line_of kind.Member) (kinds_after k) (is_past (Some (key_columns k))) s.members _ (λ m there. by_place set place m.set m.place fits ((holds.rows in_members).fit m there))
+      (from_relations (kinds_after k) (λ r. refl) (λ t. refl))
+      ∙ sym (no_one_and (line_of kind.User) (kinds_after k) s.users (certifiers ++ (members ++ (relations ++ triples))) (λ u. refl)
+      ∙ no_one_and (line_of kind.Certifier) (kinds_after k) s.certifiers (members ++ (relations ++ triples)) (λ c. refl))
   next_is db holds (key.Relation procedure set) fits =
       let k : PolicyKey = key.Relation procedure set in
-      some_one_and (line_of kind.Relation) (behind k) (is_past (Some (key_columns k))) s.relations _ (λ r there. by_two (number_of procedure) set (number_of r.procedure) r.set fits ((holds.rows in_relations).fit r there))
-      (from_triples (behind k) (λ t. refl))
-      ∙ sym (no_one_and (line_of kind.User) (behind k) s.users (certifiers ++ (members ++ (relations ++ triples))) (λ u. refl)
-      ∙ no_one_and (line_of kind.Certifier) (behind k) s.certifiers (members ++ (relations ++ triples)) (λ c. refl)
-      ∙ no_one_and (line_of kind.Member) (behind k) s.members (relations ++ triples) (λ m. refl))
+      some_one_and (line_of kind.Relation) (kinds_after k) (is_past (Some (key_columns k))) s.relations _ (λ r there. by_two (number_of procedure) set (number_of r.procedure) r.set fits ((holds.rows in_relations).fit r there))
+      (from_triples (kinds_after k) (λ t. refl))
+      ∙ sym (no_one_and (line_of kind.User) (kinds_after k) s.users (certifiers ++ (members ++ (relations ++ triples))) (λ u. refl)
+      ∙ no_one_and (line_of kind.Certifier) (kinds_after k) s.certifiers (members ++ (relations ++ triples)) (λ c. refl)
+      ∙ no_one_and (line_of kind.Member) (kinds_after k) s.members (relations ++ triples) (λ m. refl))
   next_is db holds (key.Triple user procedure set) fits =
       let k : PolicyKey = key.Triple user procedure set in
-      some_one_and (line_of kind.Triple) (behind k) (is_past (Some (key_columns k))) s.triples []
+      some_one_and (line_of kind.Triple) (kinds_after k) (is_past (Some (key_columns k))) s.triples []
       (λ t there. by_three user (number_of procedure) set t.user (number_of t.procedure) t.set (small_number procedure) fits (small_number t.procedure) ((holds.rows in_triples).fit t there)) refl
-      ∙ ap (find (behind k)) (append-nil triples)
-      ∙ sym (no_one_and (line_of kind.User) (behind k) s.users (certifiers ++ (members ++ (relations ++ triples))) (λ u. refl)
-      ∙ no_one_and (line_of kind.Certifier) (behind k) s.certifiers (members ++ (relations ++ triples)) (λ c. refl)
-      ∙ no_one_and (line_of kind.Member) (behind k) s.members (relations ++ triples) (λ m. refl)
-      ∙ no_one_and (line_of kind.Relation) (behind k) s.relations triples (λ r. refl))
+      ∙ ap (find (kinds_after k)) (append-nil triples)
+      ∙ sym (no_one_and (line_of kind.User) (kinds_after k) s.users (certifiers ++ (members ++ (relations ++ triples))) (λ u. refl)
+      ∙ no_one_and (line_of kind.Certifier) (kinds_after k) s.certifiers (members ++ (relations ++ triples)) (λ c. refl)
+      ∙ no_one_and (line_of kind.Member) (kinds_after k) s.members (relations ++ triples) (λ m. refl)
+      ∙ no_one_and (line_of kind.Relation) (kinds_after k) s.relations triples (λ r. refl))
 
   -- and after none it is the first of all
-  pub first_is : or_first (find (is_past None) (lines_in s kind.User)) (lines_behind s kind.User) ≡ find (is_row_behind None) (lines_of s)
-  first_is = first_of_all users (lines_behind s kind.User) ∙ sym (first_found (lines_of s))
+  pub first_is : or_first (find (is_past None) (lines_in s kind.User)) (lines_after s kind.User) ≡ find (is_row_after None) (lines_of s)
+  first_is = first_of_all users (lines_after s kind.User) ∙ sym (first_found (lines_of s))
     where
       first_found : (lines : List PolicyRow) → find (λ _. true) lines ≡ slice_get lines 0
       first_found [] = refl

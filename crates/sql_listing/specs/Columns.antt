@@ -69,11 +69,11 @@ abbrev pub third_of : Option Columns → ℕ
 third_of None = 0
 third_of (Some columns) = columns.third
 
--- at most so many rows after these columns
+-- at most n rows after these columns
 abbrev pub part_of : Option Columns → ℤ → Part
 part_of after count = record { first = first_of after; second = second_of after; third = third_of after; count = count }
 
--- at most so many, or all where the number is below 0
+-- at most n, or all where the number is below 0
 abbrev pub at_most : {X : Type 0} → ℤ → List X → List X
 at_most (pos count) xs = take count xs
 at_most (negsuc _) xs = xs

@@ -68,16 +68,16 @@ abbrev pub lines_in : Sheets → LineKind → List PolicyRow
 lines_in s k = map (line_of k) (rows_of s k)
 
 -- the lines of the kinds after one
-abbrev pub lines_behind : Sheets → LineKind → List PolicyRow
-lines_behind s kind.User = lines_in s kind.Certifier ++ (lines_in s kind.Member ++ (lines_in s kind.Relation ++ lines_in s kind.Triple))
-lines_behind s kind.Certifier = lines_in s kind.Member ++ (lines_in s kind.Relation ++ lines_in s kind.Triple)
-lines_behind s kind.Member = lines_in s kind.Relation ++ lines_in s kind.Triple
-lines_behind s kind.Relation = lines_in s kind.Triple
-lines_behind s kind.Triple = []
+abbrev pub lines_after : Sheets → LineKind → List PolicyRow
+lines_after s kind.User = lines_in s kind.Certifier ++ (lines_in s kind.Member ++ (lines_in s kind.Relation ++ lines_in s kind.Triple))
+lines_after s kind.Certifier = lines_in s kind.Member ++ (lines_in s kind.Relation ++ lines_in s kind.Triple)
+lines_after s kind.Member = lines_in s kind.Relation ++ lines_in s kind.Triple
+lines_after s kind.Relation = lines_in s kind.Triple
+lines_after s kind.Triple = []
 
 -- the lines of a kind and of those that follow it
 abbrev pub lines_from : Sheets → LineKind → List PolicyRow
-lines_from s k = lines_in s k ++ lines_behind s k
+lines_from s k = lines_in s k ++ lines_after s k
 
 -- all lines of the policy, in listing order
 abbrev pub lines_of : Sheets → List PolicyRow

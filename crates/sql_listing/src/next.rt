@@ -3,14 +3,14 @@
 ghost use Rattle.std.specs.Prelude.{◌≡◌};
 ghost use Rattle.std.specs.List.{find};
 ghost use Rattle.sqlite.specs.Held.{state};
-ghost use Rattle.sql_schema.specs.Steps.{FindsHeld, FindsHeldInside, LeavesNone, Stays, WasOpen};
-ghost use Rattle.world_reads.specs.PolicyListing.{is_row_behind};
+ghost use Rattle.sql_schema.specs.Steps.{FindsHeld, FindsHeldInside, Reads};
+ghost use Rattle.world_reads.specs.PolicyListing.{is_row_after};
 ghost use Rattle.sql_listing.specs.Columns.{is_past, or_first};
-ghost use Rattle.sql_listing.specs.Lines.{lines_behind, lines_in, lines_of};
+ghost use Rattle.sql_listing.specs.Lines.{lines_after, lines_in, lines_of};
 
 use crate::columns::{Columns, key_columns, key_kind};
 use crate::kinds::LineKind;
-use crate::parts::next_behind;
+use crate::parts::next_after;
 use crate::read::read_line;
 use crate::selects::select_lines;
 use money::Fault;
@@ -25,13 +25,10 @@ fn next_line<S: Alter>(
     kind: LineKind,
     after: Option<Columns>,
 ) -> Result<Option<PolicyRow>, Fault>
-    ensures same_reference { tx.new.conn.ghost_name ≡ tx.old.conn.ghost_name }
+    ensures reads { Reads S.Store tx.old.conn tx.new.conn result }
     ensures found { FindsHeld (state S.Store tx.old.conn.now) (state S.Store tx.new.conn.now) result (λ s line. line ≡ find (is_past after) (lines_in s kind)) }
-    ensures steps { Stays (state S.Store tx.old.conn.now) (state S.Store tx.new.conn.now) result }
-    ensures open { WasOpen (state S.Store tx.old.conn.now) (state S.Store tx.new.conn.now) result }
-    ensures survives { LeavesNone (state S.Store tx.old.conn.now) (state S.Store tx.new.conn.now) }
 {
-    let part = next_behind(after);
+    let part = next_after(after);
     let rows = select_lines(tx, kind, &part)?;
     match rows.first() {
         Some(row) => Ok(Some(read_line(alloc, kind, row)?)),
@@ -46,11 +43,8 @@ fn next_from<S: Alter>(
     kind: LineKind,
     after: Option<Columns>,
 ) -> Result<Option<PolicyRow>, Fault>
-    ensures same_reference { tx.new.conn.ghost_name ≡ tx.old.conn.ghost_name }
-    ensures found { FindsHeldInside (state S.Store tx.old.conn.now) (state S.Store tx.new.conn.now) result (λ s line. line ≡ or_first (find (is_past after) (lines_in s kind)) (lines_behind s kind)) }
-    ensures steps { Stays (state S.Store tx.old.conn.now) (state S.Store tx.new.conn.now) result }
-    ensures open { WasOpen (state S.Store tx.old.conn.now) (state S.Store tx.new.conn.now) result }
-    ensures survives { LeavesNone (state S.Store tx.old.conn.now) (state S.Store tx.new.conn.now) }
+    ensures reads { Reads S.Store tx.old.conn tx.new.conn result }
+    ensures found { FindsHeldInside (state S.Store tx.old.conn.now) (state S.Store tx.new.conn.now) result (λ s line. line ≡ or_first (find (is_past after) (lines_in s kind)) (lines_after s kind)) }
 {
     match next_line(alloc, tx, kind, after)? {
         Some(line) => Ok(Some(line)),
@@ -68,11 +62,8 @@ pub fn next_policy<S: Alter>(
     tx: &mut Transaction<'_, S>,
     after: Option<PolicyKey>,
 ) -> Result<Option<PolicyRow>, Fault>
-    ensures same_reference { tx.new.conn.ghost_name ≡ tx.old.conn.ghost_name }
-    ensures found { FindsHeldInside (state S.Store tx.old.conn.now) (state S.Store tx.new.conn.now) result (λ s line. line ≡ find (is_row_behind after) (lines_of s)) }
-    ensures steps { Stays (state S.Store tx.old.conn.now) (state S.Store tx.new.conn.now) result }
-    ensures open { WasOpen (state S.Store tx.old.conn.now) (state S.Store tx.new.conn.now) result }
-    ensures survives { LeavesNone (state S.Store tx.old.conn.now) (state S.Store tx.new.conn.now) }
+    ensures reads { Reads S.Store tx.old.conn tx.new.conn result }
+    ensures found { FindsHeldInside (state S.Store tx.old.conn.now) (state S.Store tx.new.conn.now) result (λ s line. line ≡ find (is_row_after after) (lines_of s)) }
 {
     match after {
         Some(key) => next_from(alloc, tx, key_kind(key), Some(key_columns(key))),

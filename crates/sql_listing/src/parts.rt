@@ -5,7 +5,7 @@ ghost use Rattle.sql_listing.specs.Columns.{part_of};
 
 use crate::columns::Columns;
 
-/// The rows of a table after these columns, in order of key, at most so many; all of them from the
+/// The rows of a table after these columns, in order of key, at most `count`; all of them from the
 /// first on with -1 in the first column, and however many there are with a count of -1.
 #[derive(Clone, Copy)]
 pub(crate) struct Part {
@@ -28,7 +28,7 @@ pub(crate) fn whole() -> Part
 }
 
 /// The first row after these columns, or the first of all.
-pub(crate) fn next_behind(after: Option<Columns>) -> Part
+pub(crate) fn next_after(after: Option<Columns>) -> Part
     ensures { result ≡ part_of after (pos 1) }
 {
     match after {

@@ -6,7 +6,7 @@ ghost use Rattle.sqlite.specs.Held.{state};
 ghost use Rattle.sqlite.specs.State.{HasCleanDisk};
 ghost use Rattle.book_kept.specs.Sheets.{Sheets};
 ghost use Rattle.sql_schema.specs.Held.{HoldsTables};
-ghost use Rattle.sql_schema.specs.Steps.{LeavesNone, Stays, WasOpen};
+ghost use Rattle.sql_schema.specs.Steps.{Reads};
 ghost use Rattle.sql_listing.specs.Columns.{at_most, is_past, part_of};
 ghost use Rattle.sql_listing.specs.Lines.{cells_of, line_of, rows_of};
 ghost use Rattle.sql_listing.specs.declared.columns.Columns.{Columns};
@@ -21,12 +21,9 @@ use sql_schema::{
 use sqlite::{Alter, Row, Transaction, params};
 
 fn select_users<S: Alter>(tx: &mut Transaction<'_, S>, part: &Part) -> Result<Vec<Row>, Fault>
-    ensures same_reference { tx.new.conn.ghost_name ≡ tx.old.conn.ghost_name }
+    ensures reads { Reads S.Store tx.old.conn tx.new.conn result }
     ensures rows { HasCleanDisk (state S.Store tx.new.conn.now) → (s : Sheets) → HoldsTables (state S.Store tx.old.conn.now).now s → (after : Option Columns) (count : ℤ) → part.now ≡ part_of after count
         → IfOk result (λ rows. rows.items ≡ at_most count (map (cells_of kind.User) (filter (λ r. is_past after (line_of kind.User r)) (rows_of s kind.User)))) }
-    ensures steps { Stays (state S.Store tx.old.conn.now) (state S.Store tx.new.conn.now) result }
-    ensures open { WasOpen (state S.Store tx.old.conn.now) (state S.Store tx.new.conn.now) result }
-    ensures survives { LeavesNone (state S.Store tx.old.conn.now) (state S.Store tx.new.conn.now) }
 {
     plain_rows(
         tx,
@@ -36,12 +33,9 @@ fn select_users<S: Alter>(tx: &mut Transaction<'_, S>, part: &Part) -> Result<Ve
 }
 
 fn select_certifiers<S: Alter>(tx: &mut Transaction<'_, S>, part: &Part) -> Result<Vec<Row>, Fault>
-    ensures same_reference { tx.new.conn.ghost_name ≡ tx.old.conn.ghost_name }
+    ensures reads { Reads S.Store tx.old.conn tx.new.conn result }
     ensures rows { HasCleanDisk (state S.Store tx.new.conn.now) → (s : Sheets) → HoldsTables (state S.Store tx.old.conn.now).now s → (after : Option Columns) (count : ℤ) → part.now ≡ part_of after count
         → IfOk result (λ rows. rows.items ≡ at_most count (map (cells_of kind.Certifier) (filter (λ r. is_past after (line_of kind.Certifier r)) (rows_of s kind.Certifier)))) }
-    ensures steps { Stays (state S.Store tx.old.conn.now) (state S.Store tx.new.conn.now) result }
-    ensures open { WasOpen (state S.Store tx.old.conn.now) (state S.Store tx.new.conn.now) result }
-    ensures survives { LeavesNone (state S.Store tx.old.conn.now) (state S.Store tx.new.conn.now) }
 {
     plain_rows(
         tx,
@@ -53,12 +47,9 @@ fn select_certifiers<S: Alter>(tx: &mut Transaction<'_, S>, part: &Part) -> Resu
 }
 
 fn select_members<S: Alter>(tx: &mut Transaction<'_, S>, part: &Part) -> Result<Vec<Row>, Fault>
-    ensures same_reference { tx.new.conn.ghost_name ≡ tx.old.conn.ghost_name }
+    ensures reads { Reads S.Store tx.old.conn tx.new.conn result }
     ensures rows { HasCleanDisk (state S.Store tx.new.conn.now) → (s : Sheets) → HoldsTables (state S.Store tx.old.conn.now).now s → (after : Option Columns) (count : ℤ) → part.now ≡ part_of after count
         → IfOk result (λ rows. rows.items ≡ at_most count (map (cells_of kind.Member) (filter (λ r. is_past after (line_of kind.Member r)) (rows_of s kind.Member)))) }
-    ensures steps { Stays (state S.Store tx.old.conn.now) (state S.Store tx.new.conn.now) result }
-    ensures open { WasOpen (state S.Store tx.old.conn.now) (state S.Store tx.new.conn.now) result }
-    ensures survives { LeavesNone (state S.Store tx.old.conn.now) (state S.Store tx.new.conn.now) }
 {
     plain_rows(
         tx,
@@ -70,12 +61,9 @@ fn select_members<S: Alter>(tx: &mut Transaction<'_, S>, part: &Part) -> Result<
 }
 
 fn select_relations<S: Alter>(tx: &mut Transaction<'_, S>, part: &Part) -> Result<Vec<Row>, Fault>
-    ensures same_reference { tx.new.conn.ghost_name ≡ tx.old.conn.ghost_name }
+    ensures reads { Reads S.Store tx.old.conn tx.new.conn result }
     ensures rows { HasCleanDisk (state S.Store tx.new.conn.now) → (s : Sheets) → HoldsTables (state S.Store tx.old.conn.now).now s → (after : Option Columns) (count : ℤ) → part.now ≡ part_of after count
         → IfOk result (λ rows. rows.items ≡ at_most count (map (cells_of kind.Relation) (filter (λ r. is_past after (line_of kind.Relation r)) (rows_of s kind.Relation)))) }
-    ensures steps { Stays (state S.Store tx.old.conn.now) (state S.Store tx.new.conn.now) result }
-    ensures open { WasOpen (state S.Store tx.old.conn.now) (state S.Store tx.new.conn.now) result }
-    ensures survives { LeavesNone (state S.Store tx.old.conn.now) (state S.Store tx.new.conn.now) }
 {
     plain_rows(
         tx,
@@ -87,12 +75,9 @@ fn select_relations<S: Alter>(tx: &mut Transaction<'_, S>, part: &Part) -> Resul
 }
 
 fn select_triples<S: Alter>(tx: &mut Transaction<'_, S>, part: &Part) -> Result<Vec<Row>, Fault>
-    ensures same_reference { tx.new.conn.ghost_name ≡ tx.old.conn.ghost_name }
+    ensures reads { Reads S.Store tx.old.conn tx.new.conn result }
     ensures rows { HasCleanDisk (state S.Store tx.new.conn.now) → (s : Sheets) → HoldsTables (state S.Store tx.old.conn.now).now s → (after : Option Columns) (count : ℤ) → part.now ≡ part_of after count
         → IfOk result (λ rows. rows.items ≡ at_most count (map (cells_of kind.Triple) (filter (λ r. is_past after (line_of kind.Triple r)) (rows_of s kind.Triple)))) }
-    ensures steps { Stays (state S.Store tx.old.conn.now) (state S.Store tx.new.conn.now) result }
-    ensures open { WasOpen (state S.Store tx.old.conn.now) (state S.Store tx.new.conn.now) result }
-    ensures survives { LeavesNone (state S.Store tx.old.conn.now) (state S.Store tx.new.conn.now) }
 {
     plain_rows(
         tx,
@@ -109,12 +94,9 @@ pub(crate) fn select_lines<S: Alter>(
     kind: LineKind,
     part: &Part,
 ) -> Result<Vec<Row>, Fault>
-    ensures same_reference { tx.new.conn.ghost_name ≡ tx.old.conn.ghost_name }
+    ensures reads { Reads S.Store tx.old.conn tx.new.conn result }
     ensures rows { HasCleanDisk (state S.Store tx.new.conn.now) → (s : Sheets) → HoldsTables (state S.Store tx.old.conn.now).now s → (after : Option Columns) (count : ℤ) → part.now ≡ part_of after count
         → IfOk result (λ rows. rows.items ≡ at_most count (map (cells_of kind) (filter (λ r. is_past after (line_of kind r)) (rows_of s kind)))) }
-    ensures steps { Stays (state S.Store tx.old.conn.now) (state S.Store tx.new.conn.now) result }
-    ensures open { WasOpen (state S.Store tx.old.conn.now) (state S.Store tx.new.conn.now) result }
-    ensures survives { LeavesNone (state S.Store tx.old.conn.now) (state S.Store tx.new.conn.now) }
 {
     match kind {
         LineKind::User => select_users(tx, part),

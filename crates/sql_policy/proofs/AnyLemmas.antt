@@ -1,9 +1,7 @@
 -- Rows that are shown, and whether one passes.
 use Rattle.std.proofs.Common.{◌≡◌, ℕ, List, map, filter, length, not, Bool, true, false, refl, sym, ap, ◌∙◌, ◌==◌}
-use Rattle.std.specs.List.{list_any}
-use Rattle.sqlite.specs.Order.{Row}
 use Rattle.sqlite_keyed.proofs.ListLemmas.{none_counted}
-use Rattle.sql_schema.proofs.KeyTests.{length-mapped}
+use Rattle.sql_schema.proofs.TableNames.{list_any, Row, length-mapped}
 
 -- rows are shown exactly where one passes
 pub any_shown : {X : Type 0} (f : X → Row) (p : X → Bool) (xs : List X) (rows : List Row) (n : ℕ) (empty : Bool) → empty ≡ (n == 0) → length rows ≡ n → rows ≡ map f (filter p xs) → not empty ≡ list_any p xs

@@ -1,36 +1,25 @@
 -- DELETE of a relation: its triples go with it.
 use Rattle.std.proofs.Common.{◌≡◌, ◌≢◌, inl, inr, ℕ, zero, suc, ℤ, pos, List, [], ◌∷◌, ◌++◌, drop, length, length-append, not, Bool, true, false, cond, Some, Ok, refl, ap, arith, sym, ◌∙◌, subst, ◌==◌, ◌&&◌, ◌||◌, is_eq}
-use Rattle.std.specs.List.{list_any}
-use Rattle.std.proofs.lemmas.Bool.{and_parts, eq-eqb, false≢true, true≢false}
+use Rattle.std.proofs.lemmas.Bool.{true≢false}
 use Rattle.std.proofs.Math.Bool.{and-true}
-use Rattle.sqlite.specs.declared.types.Value.TheVariants.{Null, Int}
-use Rattle.sqlite.specs.Edit.{edit_of}
-use Rattle.sqlite.specs.Order.{Row}
-use Rattle.sqlite.specs.Rowids.TheVariants.{Given}
-use Rattle.sqlite.specs.Tree.{Trees}
 use Rattle.sqlite.specs.Table.{Table}
 use Rattle.sqlite_rules.specs.Action.{Acts, AreChildren, ActsOn, Goes, Leads, Writes, Work, action_edit, is_child_of, loses, pairs}
-use Rattle.sqlite_rules.specs.Edit.{Applies, taken_by, without_all}
+use Rattle.sqlite_rules.specs.Edit.{Applies, taken_by}
 use Rattle.sqlite_rules.proofs.ListLemmas.{some_from, some_has}
-use Rattle.sqlite_schema.specs.Rules.{agree, equal, has_null, passes as passes_rules}
+use Rattle.sqlite_schema.specs.Rules.{equal, passes as passes_rules}
 use Rattle.sqlite_sql.specs.Ops.{binary, from_truth, is_true}
-use Rattle.sqlite_keyed.proofs.ListLemmas.{all_of}
 use Rattle.sqlite_schema.specs.declared.schema.Constraint.TheVariants.{ForeignKey}
 use Rattle.sqlite_schema.specs.declared.schema.Keys.TheVariants.{Enforced}
 use Rattle.sqlite_tied.specs.Compute.{everything}
-use Rattle.sqlite_value.specs.Keys.{first_key, later, plain}
+use Rattle.sqlite_value.specs.Keys.{first_key, later}
 use Rattle.sqlite_value.specs.declared.keys.Collation.{Collation}
 use Rattle.sqlite_value.specs.declared.keys.Collation.TheVariants.{Binary, NoCase, RTrim}
 use Rattle.sqlite_value.specs.declared.keys.Order.{Order}
 use Rattle.sqlite_value.proofs.OrderLemmas.{value_cmp-Int}
-use Rattle.bank_terms.specs.Procedure.{number_of}
-use Rattle.bank_policy.specs.declared.rows.Relation.{Relation}
-use Rattle.bank_policy.specs.declared.rows.Triple.{Triple}
-use Rattle.sql_schema.specs.Cells.{relation_cells, triple_cells}
-use Rattle.sql_schema.specs.Schema.{bank_schema, relations_table, grants_table}
-use Rattle.sql_schema.proofs.ActionLemmas.{nothing_set_off, relations_set_off, triples_work}
+use Rattle.sql_schema.proofs.ActionLemmas.{relations_set_off}
 use Rattle.sql_schema.proofs.FrameLemmas.{KeepsOthers}
-use Rattle.sql_schema.proofs.HeldLemmas.{Names, same_pos}
+use Rattle.sql_schema.proofs.HeldLemmas.{same_pos}
+use Rattle.sql_schema.proofs.TableNames.{list_any, and_parts, eq-eqb, false≢true, Null, Int, edit_of, Row, Given, Trees, without_all, agree, has_null, all_of, plain, number_of, Relation, Triple, relation_cells, triple_cells, bank_schema, relations_table, grants_table, nothing_set_off, triples_work, Names}
 
 -- ---- what is to be done is done
 

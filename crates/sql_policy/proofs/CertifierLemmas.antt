@@ -1,47 +1,16 @@
 -- What the statements on the certifiers do.
 use Rattle.std.proofs.Common.{◌≡◌, ◌/◌, ◌<◌, ◌+◌, ◌*◌, ◌^◌, ◌≤◌, ℕ, pos, List, [], ◌∷◌, map, filter, drop, length, not, codes, true, false, Ok, refl, sym, ◌∙◌, subst, ◌==◌}
-use Rattle.std.specs.List.{find}
-use Rattle.sqlite.specs.declared.types.Value.TheVariants.{Null, Int}
-use Rattle.sqlite.specs.Command.TheVariants.{Delete, Insert, Select}
-use Rattle.sqlite.specs.Edit.{edit_of}
-use Rattle.sqlite.specs.Effect.{value_rows}
-use Rattle.sqlite.specs.Listing.{understood, reads_listing}
-use Rattle.sqlite.specs.Order.{Row}
-use Rattle.sqlite.specs.Rowids.TheVariants.{Chosen}
-use Rattle.sqlite.specs.Source.TheVariants.{Values}
-use Rattle.sqlite.specs.State.{Executes, Shown, State}
-use Rattle.sqlite.specs.Term.{Term, col, lit}
-use Rattle.sqlite.specs.Tree.{Trees}
-use Rattle.sqlite.specs.Query.{output}
-use Rattle.sqlite.proofs.Callers.{IsPlain, command_of}
-use Rattle.sqlite_rules.specs.Edit.{next_rowid}
-use Rattle.sqlite_schema.specs.Rules.{agree}
+use Rattle.sqlite.specs.Listing.{understood}
 use Rattle.sqlite_tied.specs.Compute.{everything}
-use Rattle.sqlite_value.specs.Keys.{plain}
-use Rattle.keyed_rows.specs.Changed.{delete_rows}
-use Rattle.keyed_rows.specs.Ordered.{add_row}
-use Rattle.bank_terms.specs.Procedure.{number_of}
 use Rattle.bank_policy.specs.PolicyKeys.{certifier_key}
 use Rattle.bank_policy.specs.declared.rows.Certifier.{Certifier}
-use Rattle.book_kept.specs.Named.{IsFree}
-use Rattle.book_kept.specs.Sheets.{Sheets}
-use Rattle.sql_schema.specs.Cells.{AnyRow, certifier_cells}
-use Rattle.sql_schema.specs.Held.{HoldsTables}
+use Rattle.sql_schema.specs.Cells.{certifier_cells}
 use Rattle.sql_schema.specs.Held.Sheet.{certifiers as in_certifiers}
-use Rattle.sql_schema.specs.HeldRows.{HoldsRows, all_but_rowid}
-use Rattle.sql_schema.specs.Schema.{bank_schema, certifiers_index, certifiers_table, newest}
+use Rattle.sql_schema.specs.Schema.{certifiers_index, certifiers_table}
 use Rattle.sql_schema.proofs.NamedTables.{certifiers_index_there, certifiers_there}
-use Rattle.sql_schema.proofs.ActionLemmas.{nothing_set_off}
 use Rattle.sql_schema.proofs.FrameLemmas.{with_certifiers}
-use Rattle.sql_schema.proofs.HeldLemmas.{picked_alike}
-use Rattle.sql_schema.proofs.InsertLemmas.{adds_by_columns, apart_by_index, parts_of, puts, two_agree}
-use Rattle.sql_schema.proofs.KeyLemmas.{one_of_key}
-use Rattle.sql_schema.proofs.PickLemmas.{deletes_rows, pick}
-use Rattle.sql_schema.proofs.ReadLemmas.{alone, answered, by_two, no_limit, no_offset, two_equal}
-use Rattle.sql_schema.proofs.ScanLemmas.{passes, scan}
-use Rattle.sql_schema.proofs.WriteLemmas.{cast_int, cast_null, inserts}
-use Rattle.sql_schema.proofs.KeyTests.{at_most_one, few_mapped, two_parts}
 use Rattle.bank_terms.proofs.Procedures.{small_number}
+use Rattle.sql_schema.proofs.TableNames.{find, Null, Int, Delete, Insert, Select, edit_of, value_rows, reads_listing, Row, Chosen, Values, Executes, Shown, State, Term, col, lit, Trees, output, IsPlain, command_of, next_rowid, agree, plain, delete_rows, add_row, number_of, IsFree, Sheets, AnyRow, HoldsTables, HoldsRows, all_but_rowid, bank_schema, newest, nothing_set_off, picked_alike, adds_by_columns, apart_by_index, parts_of, puts, two_agree, one_of_key, deletes_rows, pick, alone, answered, by_two, no_limit, no_offset, two_equal, passes, scan, cast_int, cast_null, inserts, at_most_one, few_mapped, two_parts}
 use Rattle.sql_policy.specs.Tests.{is_certifier_of}
 use Rattle.sql_policy.specs.Texts.{add_certifier_text, certifier_text, remove_certifier_text}
 

@@ -1,40 +1,16 @@
 -- What the statements on the members of sets do.
-use Rattle.std.proofs.Common.{◌≡◌, ◌/◌, ◌<◌, ◌+◌, ◌*◌, ◌^◌, ℕ, pos, List, [], ◌∷◌, map, filter, drop, codes, true, false, Ok, inl, inr, refl, arith, sym, ◌∙◌}
-use Rattle.std.proofs.lemmas.Bool.{eqb-true}
-use Rattle.sqlite.specs.declared.types.Value.TheVariants.{Null, Int}
-use Rattle.sqlite.specs.Command.TheVariants.{Insert, Select}
-use Rattle.sqlite.specs.Edit.{edit_of}
-use Rattle.sqlite.specs.Effect.{value_rows}
-use Rattle.sqlite.specs.Listing.{understood, reads_listing}
-use Rattle.sqlite.specs.Order.{Row}
-use Rattle.sqlite.specs.Rowids.TheVariants.{Chosen}
-use Rattle.sqlite.specs.Source.TheVariants.{Values}
-use Rattle.sqlite.specs.State.{Executes, Shown, State}
-use Rattle.sqlite.specs.Term.{Term, col, lit}
-use Rattle.sqlite.specs.Tree.{Trees}
-use Rattle.sqlite.specs.Query.{output}
-use Rattle.sqlite.proofs.Callers.{IsPlain, command_of}
-use Rattle.sqlite_rules.specs.Edit.{next_rowid}
-use Rattle.sqlite_schema.specs.Rules.{agree}
-use Rattle.sqlite_schema.specs.declared.schema.Index.{Index}
+use Rattle.std.proofs.Common.{◌≡◌, ◌/◌, ◌<◌, ◌+◌, ◌*◌, ◌^◌, ℕ, pos, List, [], ◌∷◌, map, filter, drop, codes, true, false, Ok, refl, arith, sym, ◌∙◌}
+use Rattle.sqlite.specs.Listing.{understood}
 use Rattle.sqlite_tied.specs.Compute.{everything}
-use Rattle.sqlite_value.specs.Keys.{plain}
-use Rattle.keyed_rows.specs.Ordered.{add_row}
-use Rattle.book_kept.specs.Named.{IsFree}
-use Rattle.book_kept.specs.Sheets.{Sheets, member_no}
+use Rattle.book_kept.specs.Sheets.{member_no}
 use Rattle.book_kept.specs.declared.records.MemberRow.{MemberRow}
 use Rattle.sql_schema.specs.Cells.{MemberFits, member_cells}
-use Rattle.sql_schema.specs.Held.{HoldsTables}
 use Rattle.sql_schema.specs.Held.Sheet.{members as in_members}
-use Rattle.sql_schema.specs.HeldRows.{all_but_rowid}
 use Rattle.sql_schema.specs.Numbers.{kind_number}
-use Rattle.sql_schema.specs.Schema.{bank_schema, members_index, members_table, newest}
+use Rattle.sql_schema.specs.Schema.{members_index, members_table}
 use Rattle.sql_schema.proofs.NamedTables.{members_index_there, members_there}
 use Rattle.sql_schema.proofs.FrameLemmas.{with_members}
-use Rattle.sql_schema.proofs.InsertLemmas.{adds_by_columns, apart_by_index, parts_of, puts, two_agree}
-use Rattle.sql_schema.proofs.ReadLemmas.{answered, by_one, in_order, no_limit, no_offset, one_equals, rises_by_one, rising_key}
-use Rattle.sql_schema.proofs.ScanLemmas.{passes, scan}
-use Rattle.sql_schema.proofs.WriteLemmas.{cast_int, cast_null, inserts}
+use Rattle.sql_schema.proofs.TableNames.{eqb-true, Null, Int, Insert, Select, edit_of, value_rows, reads_listing, Row, Chosen, Values, Executes, Shown, State, Term, col, lit, Trees, output, IsPlain, command_of, next_rowid, agree, plain, add_row, IsFree, Sheets, HoldsTables, all_but_rowid, bank_schema, newest, adds_by_columns, apart_by_index, parts_of, puts, two_agree, answered, by_one, in_order, no_limit, no_offset, one_equals, rises_by_one, rising_key, passes, scan, cast_int, cast_null, inserts}
 use Rattle.sql_policy.specs.Tests.{is_member_of}
 use Rattle.sql_policy.specs.Texts.{add_member_text, members_text}
 

@@ -1,47 +1,11 @@
 -- What the statements on the relations do, but for the removal of one.
-use Rattle.std.proofs.Common.{◌≡◌, ◌/◌, ◌<◌, ◌+◌, ◌*◌, ◌^◌, ◌≤◌, ℕ, pos, List, [], ◌∷◌, map, filter, drop, length, codes, true, false, Ok, inl, inr, refl, ap, arith, sym, ◌∙◌, subst, ◌==◌}
-use Rattle.std.specs.List.{find}
-use Rattle.std.specs.Prelude.{option_map, slice_get}
-use Rattle.std.proofs.lemmas.Bool.{eqb-true}
-use Rattle.sqlite.specs.declared.types.Value.TheVariants.{Null, Int}
-use Rattle.sqlite.specs.Command.TheVariants.{Insert, Select}
-use Rattle.sqlite.specs.Edit.{edit_of}
-use Rattle.sqlite.specs.Effect.{value_rows}
-use Rattle.sqlite.specs.Listing.{understood, reads_listing}
-use Rattle.sqlite.specs.Order.{Row}
-use Rattle.sqlite.specs.Rowids.TheVariants.{Chosen}
-use Rattle.sqlite.specs.Source.TheVariants.{Values}
-use Rattle.sqlite.specs.State.{Executes, Shown, State}
-use Rattle.sqlite.specs.Term.{Term, col, lit}
-use Rattle.sqlite.specs.Tree.{Trees}
-use Rattle.sqlite.specs.Query.{output}
-use Rattle.sqlite.proofs.Callers.{IsPlain, command_of}
-use Rattle.sqlite_rules.specs.Edit.{next_rowid}
-use Rattle.sqlite_schema.specs.Rules.{agree}
-use Rattle.sqlite_schema.specs.declared.schema.Index.{Index}
+use Rattle.std.proofs.Common.{◌≡◌, ◌/◌, ◌<◌, ◌+◌, ◌*◌, ◌^◌, ◌≤◌, ℕ, pos, List, [], ◌∷◌, map, filter, drop, length, codes, true, false, Ok, refl, ap, arith, sym, ◌∙◌, subst, ◌==◌}
+use Rattle.sqlite.specs.Listing.{understood}
 use Rattle.sqlite_tied.specs.Compute.{everything}
-use Rattle.sqlite_value.specs.Keys.{plain}
-use Rattle.keyed_rows.specs.Ordered.{add_row}
-use Rattle.bank_terms.specs.Procedure.{number_of}
-use Rattle.bank_policy.specs.PolicyKeys.{relation_key}
-use Rattle.bank_policy.specs.declared.rows.Relation.{Relation}
-use Rattle.book_kept.specs.Named.{IsFree}
-use Rattle.book_kept.specs.Sheets.{Sheets}
-use Rattle.sql_schema.specs.Cells.{RelationFits, relation_cells}
-use Rattle.sql_schema.specs.Held.{HoldsTables}
-use Rattle.sql_schema.specs.Held.Sheet.{relations as in_relations}
-use Rattle.sql_schema.specs.HeldRows.{all_but_rowid}
-use Rattle.sql_schema.specs.Schema.{bank_schema, newest, relations_index, relations_table}
+use Rattle.sql_schema.specs.Schema.{relations_index}
 use Rattle.sql_schema.proofs.NamedTables.{relations_index_there, relations_there}
 use Rattle.sql_schema.proofs.FrameLemmas.{with_relations}
-use Rattle.sql_schema.proofs.HeldLemmas.{picked_alike}
-use Rattle.sql_schema.proofs.InsertLemmas.{adds_by_columns, apart_by_index, parts_of, puts, two_agree}
-use Rattle.sql_schema.proofs.KeyLemmas.{one_of_key}
-use Rattle.sql_schema.proofs.PickedRows.{first_picked}
-use Rattle.sql_schema.proofs.ReadLemmas.{alone, answered, by_one, by_two, in_order, no_limit, no_offset, one_equals, rises_by_one, rising_key, two_equal}
-use Rattle.sql_schema.proofs.ScanLemmas.{passes, scan}
-use Rattle.sql_schema.proofs.WriteLemmas.{cast_int, cast_null, inserts}
-use Rattle.sql_schema.proofs.KeyTests.{at_most_one, few_mapped, two_parts}
+use Rattle.sql_schema.proofs.TableNames.{find, option_map, slice_get, eqb-true, Null, Int, Insert, Select, edit_of, value_rows, reads_listing, Row, Chosen, Values, Executes, Shown, State, Term, col, lit, Trees, output, IsPlain, command_of, next_rowid, agree, plain, add_row, number_of, relation_key, Relation, IsFree, Sheets, RelationFits, relation_cells, HoldsTables, in_relations, all_but_rowid, bank_schema, newest, relations_table, picked_alike, adds_by_columns, apart_by_index, parts_of, puts, two_agree, one_of_key, first_picked, alone, answered, by_one, by_two, in_order, no_limit, no_offset, one_equals, rises_by_one, rising_key, two_equal, passes, scan, cast_int, cast_null, inserts, at_most_one, few_mapped, two_parts}
 use Rattle.sql_policy.specs.Tests.{is_relation_numbered, is_relation_on}
 use Rattle.sql_policy.specs.Texts.{add_relation_text, relation_text, relations_text}
 

@@ -1,54 +1,31 @@
 -- What the DELETE of a relation leaves.
 use Rattle.std.specs.Prelude.{unwrap_or}
 use Rattle.std.proofs.Common.{◌≡◌, inl, inr, ◌<◌, ◌+◌, ◌*◌, ◌^◌, ℕ, ℤ, pos, List, [], ◌∷◌, map, filter, drop, find, not, Bool, true, false, cond, Some, Ok, refl, ap, arith, sym, ◌∙◌, subst, ◌==◌, ◌&&◌, is_eq}
-use Rattle.std.specs.List.{list_any}
-use Rattle.std.proofs.lemmas.Bool.{and_from, and_parts, eq-eqb, eqb-true, false≢true}
+use Rattle.std.proofs.lemmas.Bool.{and_from}
 use Rattle.std.proofs.lemmas.Cmp.{tied_itself}
 use Rattle.std.proofs.lemmas.List.Sorted.{IsPermutation-sym}
-use Rattle.sqlite.specs.declared.types.Value.TheVariants.{Null, Int}
-use Rattle.sqlite.specs.Command.TheVariants.{Delete}
-use Rattle.sqlite.specs.Edit.{edit_of}
 use Rattle.sqlite.specs.Listing.{understood}
-use Rattle.sqlite.specs.Order.{Row}
-use Rattle.sqlite.specs.Rowids.TheVariants.{Given}
-use Rattle.sqlite.specs.State.{Executes, State}
-use Rattle.sqlite.specs.Term.{Term, col}
-use Rattle.sqlite.specs.Tree.{Trees}
-use Rattle.sqlite.proofs.Callers.{IsPlain, command_of}
 use Rattle.sqlite_rules.specs.Action.{Writes, is_child_of, loses, pairs}
 use Rattle.sqlite_rules.specs.Calls.{ids_of}
-use Rattle.sqlite_rules.specs.Edit.{id_in, row_at, without_all}
+use Rattle.sqlite_rules.specs.Edit.{id_in, row_at}
 use Rattle.sqlite_rules.specs.Lists.{Has}
 use Rattle.sqlite_rules.proofs.ListLemmas.{all_from, some_from, some_has}
 use Rattle.sqlite_rules.proofs.ProbeLemmas.{has_mapped, mapped_has}
 use Rattle.sqlite_rules.proofs.RuleLemmas.{keeps_at}
-use Rattle.sqlite_schema.specs.Rules.{Obeys, agree, has_null}
+use Rattle.sqlite_schema.specs.Rules.{Obeys}
 use Rattle.sqlite_schema.specs.declared.schema.Constraint.TheVariants.{ForeignKey}
 use Rattle.sqlite_schema.specs.declared.schema.Keys.TheVariants.{Enforced}
 use Rattle.sqlite_tied.specs.Compute.{everything}
 use Rattle.sqlite_trees.specs.Tree.{IsTable, has_rowid, rowid}
 use Rattle.sqlite_trees.proofs.ListLemmas.{filter_same as filter_alike}
-use Rattle.sqlite_value.specs.Keys.{plain}
 use Rattle.sqlite_value.specs.Order.{value_cmp}
 use Rattle.sqlite_value.proofs.OrderLemmas.{value_cmp_total}
-use Rattle.keyed_rows.specs.Changed.{delete_rows}
-use Rattle.bank_terms.specs.Procedure.{number_of}
-use Rattle.bank_policy.specs.PolicyKeys.{relation_key, triple_key}
-use Rattle.bank_policy.specs.declared.rows.Relation.{Relation}
-use Rattle.bank_policy.specs.declared.rows.Triple.{Triple}
-use Rattle.book_kept.specs.Sheets.{Sheets}
-use Rattle.sql_schema.specs.Cells.{RelationFits, TripleFits, relation_cells, triple_cells}
-use Rattle.sql_schema.specs.Held.{HoldsTables}
-use Rattle.sql_schema.specs.Held.Sheet.{relations as in_relations, triples as in_triples}
-use Rattle.sql_schema.specs.HeldRows.{HoldsRows, all_but_rowid}
-use Rattle.sql_schema.specs.Schema.{bank_schema, relations_table, grants_table}
-use Rattle.sql_schema.proofs.ActionLemmas.{triples_work}
 use Rattle.sql_schema.proofs.FrameLemmas.{others, without_relation}
-use Rattle.sql_schema.proofs.HeldLemmas.{Names, equal_from, has_permuted, held_without, picked_alike, rowid_is, same_row, taken_out}
-use Rattle.sql_schema.proofs.PickLemmas.{left_over, pick, picks_ids}
-use Rattle.sql_schema.proofs.ReadLemmas.{by_two, is_given, two_equal}
-use Rattle.sql_schema.proofs.ScanLemmas.{passes}
+use Rattle.sql_schema.proofs.HeldLemmas.{equal_from, has_permuted, held_without, rowid_is, same_row, taken_out}
+use Rattle.sql_schema.proofs.PickLemmas.{left_over, picks_ids}
+use Rattle.sql_schema.proofs.ReadLemmas.{is_given}
 use Rattle.sql_schema.proofs.WriteLemmas.{deletes}
+use Rattle.sql_schema.proofs.TableNames.{list_any, and_parts, eq-eqb, eqb-true, false≢true, Null, Int, Delete, edit_of, Row, Given, Executes, State, Term, col, Trees, IsPlain, command_of, without_all, agree, has_null, plain, delete_rows, number_of, relation_key, triple_key, Relation, Triple, Sheets, RelationFits, TripleFits, relation_cells, triple_cells, HoldsTables, in_relations, in_triples, HoldsRows, all_but_rowid, bank_schema, relations_table, grants_table, triples_work, Names, picked_alike, pick, by_two, two_equal, passes}
 use Rattle.sql_policy.specs.Tests.{is_relation_on, is_triple_under}
 use Rattle.sql_policy.specs.Texts.{remove_relation_text}
 use Rattle.sql_policy.proofs.CascadeLemmas.{IsRemoved, bears, child_of, lost, parent_of, removed}
@@ -60,7 +37,7 @@ use Rattle.sql_policy.proofs.RelationLemmas.{by_number}
 -- the row of a rowid
 row_there : (rows : List Row) → IsTable rows → (r : Row) → Has rows r → (id : ℤ) → rowid r ≡ Int id → row_at rows id ≡ r
 row_there [] up r h id is = absurd h
-row_there (x ∷ rows) up r h id is = go (has_rowid id x) refl h (λ behind. row_there rows up.1 r behind id is)
+row_there (x ∷ rows) up r h id is = go (has_rowid id x) refl h (λ following. row_there rows up.1 r following id is)
   where
     mine : has_rowid id r ≡ true
     mine = ap (λ v. is_eq (value_cmp v (Int id))) is ∙ ap is_eq (tied_itself value_cmp_total (Int id))
@@ -68,17 +45,17 @@ row_there (x ∷ rows) up r h id is = go (has_rowid id x) refl h (λ behind. row
     go : (b : Bool) → has_rowid id x ≡ b → Has (x ∷ rows) r → (Has rows r → row_at rows id ≡ r) → unwrap_or (cond b (Some x) (find (has_rowid id) rows)) [] ≡ r
     go true here there rest = same_row (x ∷ rows) up x r (inl refl) there (equal_from _ (ap (λ v. is_eq (value_cmp (rowid x) v)) is ∙ here))
     go false other (inl same) rest = absurd (false≢true (sym other ∙ ap (has_rowid id) (sym same) ∙ mine))
-    go false other (inr behind) rest = rest behind
+    go false other (inr following) rest = rest following
 
 pair_has : (olds : List Row) (o : Row) → Has olds o → Has (pairs olds []) (o, [])
 pair_has [] o h = absurd h
 pair_has (x ∷ olds) o (inl same) = inl (ap (λ r. (r, [])) same)
-pair_has (x ∷ olds) o (inr behind) = inr (pair_has olds o behind)
+pair_has (x ∷ olds) o (inr following) = inr (pair_has olds o following)
 
 pair_is : (olds : List Row) (move : Row × Row) → Has (pairs olds []) move → (o : Row) × Has olds o × (move ≡ (o, []))
 pair_is [] move h = absurd h
 pair_is (x ∷ olds) move (inl same) = (x, inl refl, same)
-pair_is (x ∷ olds) move (inr behind) = let rest = pair_is olds move behind in (rest.0, inr rest.1, rest.2)
+pair_is (x ∷ olds) move (inr following) = let rest = pair_is olds move following in (rest.0, inr rest.1, rest.2)
 
 record_of : {X : Type 0} (cells : X → Row) (key : X → ℕ) (Fits : X → Type 0) (xs : List X) (tree : List Row) → HoldsRows all_but_rowid cells key Fits xs tree → (r : Row) → Has tree r → (x : X) × Has xs x × (drop 1 r ≡ cells x)
 record_of cells key Fits xs tree holds r h =

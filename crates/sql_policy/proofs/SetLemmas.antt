@@ -1,37 +1,15 @@
 -- What the statements on the sets do.
 use Rattle.std.proofs.Common.{◌≡◌, ◌/◌, ◌≤◌, ℕ, pos, List, [], ◌∷◌, map, filter, length, codes, true, false, Ok, refl, ap, sym, ◌∙◌, subst, ◌==◌}
-use Rattle.std.specs.List.{find}
-use Rattle.std.proofs.lemmas.List.Sorted.{length_permutation}
-use Rattle.sqlite_keyed.proofs.ListLemmas.{all_of, filter_all}
-use Rattle.sqlite.specs.declared.types.Value.TheVariants.{Null, Int}
-use Rattle.sqlite.specs.Command.TheVariants.{Insert, Select}
-use Rattle.sqlite.specs.Edit.{edit_of}
-use Rattle.sqlite.specs.Effect.{value_rows}
-use Rattle.sqlite.specs.Listing.{understood, reads_listing}
-use Rattle.sqlite.specs.Order.{Row}
-use Rattle.sqlite.specs.Rowids.TheVariants.{Chosen}
-use Rattle.sqlite.specs.Source.TheVariants.{Values}
-use Rattle.sqlite.specs.State.{Executes, Shown, State}
-use Rattle.sqlite.specs.Term.{Term, col, lit}
-use Rattle.sqlite.specs.Tree.{Trees}
-use Rattle.sqlite.proofs.Callers.{IsPlain, command_of}
+use Rattle.sqlite_keyed.proofs.ListLemmas.{filter_all}
+use Rattle.sqlite.specs.Listing.{understood}
 use Rattle.sqlite_tied.specs.Compute.{everything}
-use Rattle.keyed_rows.specs.Ordered.{add_row}
-use Rattle.book_kept.specs.Named.{IsFree}
-use Rattle.book_kept.specs.Sheets.{Sheets}
-use Rattle.sql_schema.specs.Cells.{AnyRow, set_cells}
-use Rattle.sql_schema.specs.Held.{HoldsTables, set_no}
+use Rattle.sql_schema.specs.Cells.{set_cells}
+use Rattle.sql_schema.specs.Held.{set_no}
 use Rattle.sql_schema.specs.Held.Sheet.{sets as in_sets}
-use Rattle.sql_schema.specs.HeldRows.{all_of_it}
-use Rattle.sql_schema.specs.Schema.{bank_schema, sets_table}
+use Rattle.sql_schema.specs.Schema.{sets_table}
 use Rattle.sql_schema.proofs.FrameLemmas.{with_sets}
-use Rattle.sql_schema.proofs.InsertLemmas.{adds_by_rowid, apart_by_rowid, puts}
-use Rattle.sql_schema.proofs.KeyLemmas.{one_of_key}
-use Rattle.sql_schema.proofs.ReadLemmas.{alone, answered, answers, by_key, no_limit, no_offset, one_equals, rising_key}
-use Rattle.sql_schema.proofs.ScanLemmas.{scan}
-use Rattle.sql_schema.proofs.WriteLemmas.{cast_int, cast_null, inserts}
-use Rattle.sql_schema.proofs.KeyTests.{at_most_one, few_mapped, length-mapped}
 use Rattle.sql_schema.specs.Shown.{shown_set}
+use Rattle.sql_schema.proofs.TableNames.{find, length_permutation, all_of, Null, Int, Insert, Select, edit_of, value_rows, reads_listing, Row, Chosen, Values, Executes, Shown, State, Term, col, lit, Trees, IsPlain, command_of, add_row, IsFree, Sheets, AnyRow, HoldsTables, all_of_it, bank_schema, adds_by_rowid, apart_by_rowid, puts, one_of_key, alone, answered, answers, by_key, no_limit, no_offset, one_equals, rising_key, scan, cast_int, cast_null, inserts, at_most_one, few_mapped, length-mapped}
 use Rattle.sql_policy.specs.Texts.{add_set_text, set_text, sets_text}
 
 -- ---- SELECT

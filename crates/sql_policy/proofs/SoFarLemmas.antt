@@ -1,11 +1,15 @@
 -- Rows that are read one after another, each by a statement of its own.
-use Rattle.std.proofs.Common.{◌≡◌, ◌<◌, ◌≤◌, ◌+◌, ℕ, List, [], ◌∷◌, ◌++◌, map, take, length, get_or, IsTrue, sym, ap, ◌∙◌}
+use Rattle.std.proofs.Common.{◌≡◌, ◌<◌, ◌≤◌, ◌+◌, ℕ, List, [], ◌∷◌, ◌++◌, map, take, length, get_or, IsTrue, sym, ap, ◌∙◌, Ok, Result}
 use Rattle.std.proofs.lemmas.List.{map-append, take_all, take_more}
-use Rattle.sqlite.specs.State.{HasCleanDisk, KeepsCommit, State}
-use Rattle.book_kept.specs.Sheets.{Sheets}
-use Rattle.sql_schema.specs.Held.{HoldsTables}
-use Rattle.sql_schema.proofs.StepLemmas.{early, kept_then}
-use Rattle.sql_schema.specs.Steps.{LeavesNone}
+use Rattle.std.specs.Borrow.{MutBor}
+use Rattle.money.specs.declared.fault.Fault.{Fault}
+use Rattle.sqlite.specs.Held.{Held, state}
+use Rattle.sqlite.specs.State.{HasCleanDisk, KeepsCommit}
+use Rattle.sqlite_trees.specs.declared.store.Store.{Ghosts}
+use Rattle.sql_schema.specs.Steps.{Frame, LeavesNone, Reads, Step}
+use Rattle.sql_schema.proofs.StepChains.{read_step, stepped, then_step}
+use Rattle.sql_schema.proofs.StepLemmas.{always_ok, early, kept_then}
+use Rattle.sql_schema.proofs.TableNames.{State, Sheets, HoldsTables}
 
 -- the tables hold what they held, and of that these rows were read
 abbrev pub ReadSoFar : {Y : Type 0} → State → State → (Sheets → List Y) → List Y → Type 0
@@ -31,3 +35,19 @@ module _ {X Y : Type 0} (first mid last : State) (made : Sheets → X → Y) (xs
 
 pub every_read : {X Y : Type 0} (f : X → Y) (xs : List X) (i : ℕ) (ys : List Y) → length xs ≤ i → ys ≡ map f (take i xs) → ys ≡ map f xs
 every_read f xs i ys past is = is ∙ ap (map f) (take_all i xs past)
+
+-- so the reads make one step
+pub so_far : {S Y : Type 0} {store : Ghosts S} {a b : MutBor (Held S)} {rows_of : Sheets → List Y} {ys : List Y}
+    → Frame store a b → ReadSoFar (state store a.now) (state store b.now) rows_of ys → Step {E = Fault} store a b (λ s. s) (Ok ys)
+so_far frame read = stepped frame (λ clean inside s holds. let it = read clean inside s holds in ((it.0.0, it.0.1), it.1))
+
+-- a read, and then a step that makes nothing of the rows
+pub read_then : {S X Y E F : Type 0} {store : Ghosts S} {a b c : MutBor (Held S)} {x : X} {r : Result Y E} → Reads {E = F} store a b (Ok x) → Step store b c (λ s. s) r → Reads store a c r
+read_then {store = store} {b = b} {c = c} {r = r} one two =
+    let both = then_step (read_step one) two in
+    record {
+      same = both.same;
+      survives = both.survives;
+      stays = both.steps;
+      was_open = λ clean. let it = one.was_open (early (state store b.now) (state store c.now) _ two.survives clean) in (always_ok r _ it.0, λ _. it.0);
+    }

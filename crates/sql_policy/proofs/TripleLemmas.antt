@@ -1,51 +1,15 @@
 -- What the statements on the triples do.
 use Rattle.std.proofs.Common.{◌≡◌, ◌/◌, ◌<◌, ◌+◌, ◌*◌, ◌^◌, ◌≤◌, ℕ, pos, List, [], ◌∷◌, map, filter, drop, length, not, codes, true, false, Ok, refl, ap, arith, sym, ◌∙◌, subst, ◌==◌}
-use Rattle.std.specs.List.{find}
-use Rattle.std.specs.Prelude.{option_map, slice_get}
-use Rattle.std.proofs.lemmas.Bool.{and_parts, eqb-true}
-use Rattle.std.proofs.lemmas.List.Sorted.{length_permutation}
-use Rattle.sqlite.specs.declared.types.Value.TheVariants.{Null, Int}
-use Rattle.sqlite.specs.Command.TheVariants.{Delete, Insert, Select}
-use Rattle.sqlite.specs.Edit.{edit_of}
-use Rattle.sqlite.specs.Effect.{value_rows}
-use Rattle.sqlite.specs.Listing.{understood, reads_listing}
-use Rattle.sqlite.specs.Order.{Row}
-use Rattle.sqlite.specs.Rowids.TheVariants.{Chosen}
-use Rattle.sqlite.specs.Source.TheVariants.{Values}
-use Rattle.sqlite.specs.State.{Executes, Shown, State}
-use Rattle.sqlite.specs.Term.{Term, col, lit}
-use Rattle.sqlite.specs.Tree.{Trees}
-use Rattle.sqlite.specs.Query.{output}
-use Rattle.sqlite.proofs.Callers.{IsPlain, command_of}
-use Rattle.sqlite_rules.specs.Edit.{next_rowid}
-use Rattle.sqlite_schema.specs.Rules.{agree}
+use Rattle.sqlite.specs.Listing.{understood}
 use Rattle.sqlite_tied.specs.Compute.{everything}
-use Rattle.sqlite_value.specs.Keys.{plain}
-use Rattle.keyed_rows.specs.Changed.{delete_rows}
-use Rattle.keyed_rows.specs.Ordered.{add_row}
-use Rattle.bank_terms.specs.Procedure.{number_of}
-use Rattle.bank_policy.specs.PolicyKeys.{triple_key}
-use Rattle.bank_policy.specs.declared.rows.Triple.{Triple}
-use Rattle.book_kept.specs.Named.{IsFree}
-use Rattle.book_kept.specs.Sheets.{Sheets}
-use Rattle.sql_schema.specs.Cells.{TripleFits, triple_cells}
-use Rattle.sql_schema.specs.Held.{HoldsTables}
-use Rattle.sql_schema.specs.Held.Sheet.{triples as in_triples}
-use Rattle.sql_schema.specs.HeldRows.{HoldsRows, all_but_rowid}
-use Rattle.sql_schema.specs.Schema.{bank_schema, grants_index, grants_table, newest}
+use Rattle.sql_schema.specs.Schema.{grants_index}
 use Rattle.sql_schema.proofs.NamedTables.{triples_index_there, triples_there}
-use Rattle.sql_schema.proofs.ActionLemmas.{nothing_set_off}
 use Rattle.sql_schema.proofs.FrameLemmas.{with_triples}
-use Rattle.sql_schema.proofs.HeldLemmas.{picked_alike}
-use Rattle.sql_schema.proofs.InsertLemmas.{adds_by_columns, apart_by_index, puts, three_agree}
-use Rattle.sql_schema.proofs.KeyLemmas.{one_of_key}
-use Rattle.sql_schema.proofs.PickLemmas.{deletes_rows, pick}
-use Rattle.sql_schema.proofs.PickedRows.{first_picked}
-use Rattle.sql_schema.proofs.ReadLemmas.{alone, answered, answers, by_one, by_three, by_two, in_order, no_limit, no_offset, one_equals, rises_by_one, rising_key, three_equal, two_equal}
-use Rattle.sql_schema.proofs.ScanLemmas.{passes, scan}
-use Rattle.sql_schema.proofs.WriteLemmas.{cast_int, cast_null, inserts}
-use Rattle.sql_schema.proofs.KeyTests.{at_most_one, few_mapped, length-mapped, three_parts, three_parts_of}
+use Rattle.sql_schema.proofs.InsertLemmas.{three_agree}
+use Rattle.sql_schema.proofs.ReadLemmas.{by_three, three_equal}
+use Rattle.sql_schema.proofs.KeyTests.{three_parts, three_parts_of}
 use Rattle.bank_terms.proofs.Procedures.{small_number}
+use Rattle.sql_schema.proofs.TableNames.{find, option_map, slice_get, and_parts, eqb-true, length_permutation, Null, Int, Delete, Insert, Select, edit_of, value_rows, reads_listing, Row, Chosen, Values, Executes, Shown, State, Term, col, lit, Trees, output, IsPlain, command_of, next_rowid, agree, plain, delete_rows, add_row, number_of, triple_key, Triple, IsFree, Sheets, TripleFits, triple_cells, HoldsTables, in_triples, HoldsRows, all_but_rowid, bank_schema, grants_table, newest, nothing_set_off, picked_alike, adds_by_columns, apart_by_index, puts, one_of_key, deletes_rows, pick, first_picked, alone, answered, answers, by_one, by_two, in_order, no_limit, no_offset, one_equals, rises_by_one, rising_key, two_equal, passes, scan, cast_int, cast_null, inserts, at_most_one, few_mapped, length-mapped}
 use Rattle.sql_policy.specs.Tests.{is_triple_at, is_triple_by, is_triple_numbered}
 use Rattle.sql_policy.specs.Texts.{add_triple_text, remove_triple_text, triple_text, triples_text, user_triples_text}
 

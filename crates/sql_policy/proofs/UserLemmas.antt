@@ -1,44 +1,23 @@
 -- What the statements on the users do.
 use Rattle.std.proofs.Common.{◌≡◌, ◌/◌, ℕ, pos, List, [], ◌∷◌, drop, codes, Bool, true, false, Ok, refl, ap, ◌∙◌, ◌==◌}
-use Rattle.std.specs.List.{find}
-use Rattle.std.specs.Prelude.{option_map, slice_get}
-use Rattle.sqlite.specs.declared.types.Value.TheVariants.{Null, Int}
-use Rattle.sqlite.specs.Command.TheVariants.{Insert, Select, Update}
-use Rattle.sqlite.specs.Edit.{edit_of}
-use Rattle.sqlite.specs.Effect.{value_rows}
-use Rattle.sqlite.specs.Listing.{understood, reads_listing}
-use Rattle.sqlite.specs.Order.{Row}
-use Rattle.sqlite.specs.Rowids.TheVariants.{Chosen}
-use Rattle.sqlite.specs.Source.TheVariants.{Values}
-use Rattle.sqlite.specs.State.{Executes, Shown, State}
-use Rattle.sqlite.specs.Term.{Term, col, lit}
-use Rattle.sqlite.specs.Tree.{Trees}
-use Rattle.sqlite.specs.Query.{output}
-use Rattle.sqlite.proofs.Callers.{IsPlain, command_of}
+use Rattle.sqlite.specs.Command.TheVariants.{Update}
+use Rattle.sqlite.specs.Listing.{understood}
 use Rattle.sqlite.specs.Cast.{cast}
 use Rattle.sqlite.specs.Kind.TheVariants.{Integer}
 use Rattle.sqlite_rules.specs.Cast.{cast_row}
 use Rattle.sqlite_value.specs.Order.{column}
 use Rattle.sqlite_tied.specs.Compute.{everything}
-use Rattle.keyed_rows.specs.Ordered.{add_row}
-use Rattle.book_kept.specs.Named.{IsFree}
-use Rattle.book_kept.specs.Sheets.{Sheets, set_row, user_no}
+use Rattle.book_kept.specs.Sheets.{set_row, user_no}
 use Rattle.book_kept.specs.declared.records.KeptUser.{KeptUser}
-use Rattle.sql_schema.specs.Cells.{AnyRow, user_cells}
-use Rattle.sql_schema.specs.Held.{HoldsTables}
+use Rattle.sql_schema.specs.Cells.{user_cells}
 use Rattle.sql_schema.specs.Held.Sheet.{users as in_users}
-use Rattle.sql_schema.specs.HeldRows.{all_of_it}
 use Rattle.sql_schema.specs.Numbers.{truth_cell}
-use Rattle.sql_schema.specs.Schema.{bank_schema, users_table}
-use Rattle.sql_schema.proofs.ActionLemmas.{nothing_set_off}
+use Rattle.sql_schema.specs.Schema.{users_table}
 use Rattle.sql_schema.proofs.FrameLemmas.{with_users}
-use Rattle.sql_schema.proofs.InsertLemmas.{adds_by_rowid, apart_by_rowid, puts}
-use Rattle.sql_schema.proofs.PickedRows.{few_of_key, first_picked}
-use Rattle.sql_schema.proofs.PickLemmas.{pick, sets_row}
-use Rattle.sql_schema.proofs.ReadLemmas.{alone, answered, by_key, no_limit, no_offset, one_equals}
-use Rattle.sql_schema.proofs.ScanLemmas.{scan}
-use Rattle.sql_schema.proofs.WriteLemmas.{cast_int, cast_null, inserts}
+use Rattle.sql_schema.proofs.PickedRows.{few_of_key}
+use Rattle.sql_schema.proofs.PickLemmas.{sets_row}
 use Rattle.sql_schema.specs.Shown.{shown_user}
+use Rattle.sql_schema.proofs.TableNames.{find, option_map, slice_get, Null, Int, Insert, Select, edit_of, value_rows, reads_listing, Row, Chosen, Values, Executes, Shown, State, Term, col, lit, Trees, output, IsPlain, command_of, add_row, IsFree, Sheets, AnyRow, HoldsTables, all_of_it, bank_schema, nothing_set_off, adds_by_rowid, apart_by_rowid, puts, first_picked, pick, alone, answered, by_key, no_limit, no_offset, one_equals, scan, cast_int, cast_null, inserts}
 use Rattle.sql_policy.specs.Texts.{add_user_text, set_user_text, user_text}
 
 -- ---- casts

@@ -1,8 +1,8 @@
 -- What the tables of a World hold of its policy is what the policy says.
 use Rattle.std.proofs.Common.{◌≡◌, ◌+◌, ℕ, List, [], ◌∷◌, ◌++◌, append-nil, map, filter, flat_map, Bool, true, false, cond, ◌==◌, Some, refl, sym, ap, ◌∙◌, subst}
-use Rattle.std.specs.List.{enumerate_from, find, list_any}
+use Rattle.std.specs.List.{enumerate_from}
 use Rattle.std.specs.Option.{option_map_or}
-use Rattle.std.proofs.lemmas.Bool.{eq-eqb, eqb-true, or_parts}
+use Rattle.std.proofs.lemmas.Bool.{or_parts}
 use Rattle.std.proofs.lemmas.List.{map-append}
 use Rattle.std.proofs.lemmas.List.Elements.{filter-append}
 use Rattle.keyed_rows.specs.Ordered.{AreDistinct}
@@ -11,13 +11,12 @@ use Rattle.bank_policy.specs.HeldRows.{is_relation_of, is_triple_of, relations_o
 use Rattle.bank_policy.specs.PolicyKeys.{set_key}
 use Rattle.bank_policy.specs.SetRow.{SetRow}
 use Rattle.bank_policy.specs.declared.rows.Member.{Member}
-use Rattle.bank_policy.specs.declared.rows.Relation.{Relation}
-use Rattle.bank_policy.specs.declared.rows.Triple.{Triple}
 use Rattle.bank_terms.specs.declared.procedure.Procedure.{Procedure}
 use Rattle.bank_books.specs.WorldLists.{WorldLists}
 use Rattle.book_kept.specs.Records.{member_row, member_rows}
 use Rattle.book_kept.specs.Sheets.{sheets_of}
 use Rattle.book_kept.specs.declared.records.MemberRow.{MemberRow}
+use Rattle.sql_schema.proofs.TableNames.{find, list_any, eq-eqb, eqb-true, Relation, Triple}
 use Rattle.sql_policy.specs.HeldRows.{certified_in, held_in, members_in}
 use Rattle.sql_policy.specs.Tests.{is_member_of}
 

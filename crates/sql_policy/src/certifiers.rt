@@ -10,7 +10,7 @@ ghost use Rattle.bank_terms.specs.Procedure.{number_of};
 ghost use Rattle.bank_policy.specs.PolicyKeys.{certifier_key};
 ghost use Rattle.book_kept.specs.Named.{IsFree};
 ghost use Rattle.sql_schema.specs.Cells.{certifier_cells};
-ghost use Rattle.sql_schema.specs.Steps.{FindsHeld, LeavesNone, RunsInside, Stays, Steps, Tells, WasOpen};
+ghost use Rattle.sql_schema.specs.Steps.{FindsHeld, Frame, Reads, RunsInside, Step, Tells};
 ghost use Rattle.sql_policy.specs.Tests.{is_certifier_of};
 ghost use Rattle.sql_policy.specs.Texts.{add_certifier_text, remove_certifier_text};
 
@@ -26,11 +26,8 @@ fn select_certifier<S: Alter>(
     user: u32,
     procedure: u32,
 ) -> Result<Vec<Row>, Fault>
-    ensures same_reference { tx.new.conn.ghost_name ≡ tx.old.conn.ghost_name }
+    ensures reads { Reads S.Store tx.old.conn tx.new.conn result }
     ensures rows { FindsHeld (state S.Store tx.old.conn.now) (state S.Store tx.new.conn.now) result (λ s rows. rows.items ≡ map certifier_cells (filter (is_certifier_of user procedure) s.certifiers)) }
-    ensures steps { Stays (state S.Store tx.old.conn.now) (state S.Store tx.new.conn.now) result }
-    ensures open { WasOpen (state S.Store tx.old.conn.now) (state S.Store tx.new.conn.now) result }
-    ensures survives { LeavesNone (state S.Store tx.old.conn.now) (state S.Store tx.new.conn.now) }
 {
     plain_rows(
         tx,
@@ -45,11 +42,8 @@ pub fn is_certifier<S: Alter>(
     user: u32,
     procedure: Procedure,
 ) -> Result<bool, Fault>
-    ensures same_reference { tx.new.conn.ghost_name ≡ tx.old.conn.ghost_name }
+    ensures reads { Reads S.Store tx.old.conn tx.new.conn result }
     ensures found { FindsHeld (state S.Store tx.old.conn.now) (state S.Store tx.new.conn.now) result (λ s there. there ≡ list_any (is_certifier_of user (number_of procedure)) s.certifiers) }
-    ensures steps { Stays (state S.Store tx.old.conn.now) (state S.Store tx.new.conn.now) result }
-    ensures open { WasOpen (state S.Store tx.old.conn.now) (state S.Store tx.new.conn.now) result }
-    ensures survives { LeavesNone (state S.Store tx.old.conn.now) (state S.Store tx.new.conn.now) }
 {
     let rows = select_certifier(tx, user, procedure.number() as u32)?;
     Ok(!rows.is_empty())
@@ -60,9 +54,8 @@ fn insert_certifier<S: Alter>(
     user: u32,
     procedure: u32,
 ) -> Result<usize, Fault>
-    ensures same_reference { tx.new.conn.ghost_name ≡ tx.old.conn.ghost_name }
+    ensures frame { Frame S.Store tx.old.conn tx.new.conn }
     ensures runs { RunsInside add_certifier_text (Int (pos user) ∷ Int (pos procedure) ∷ []) (state S.Store tx.old.conn.now) (state S.Store tx.new.conn.now) result }
-    ensures survives { LeavesNone (state S.Store tx.old.conn.now) (state S.Store tx.new.conn.now) }
 {
     run(
         tx,
@@ -76,10 +69,8 @@ pub fn add_certifier<S: Alter>(
     tx: &mut Transaction<'_, S>,
     certifier: &Certifier,
 ) -> Result<(), Fault>
-    ensures same_reference { tx.new.conn.ghost_name ≡ tx.old.conn.ghost_name }
-    ensures steps { Steps (state S.Store tx.old.conn.now) (state S.Store tx.new.conn.now) (λ s. record s { certifiers = add_row certifier_key certifier.now s.certifiers }) result }
+    ensures step { Step S.Store tx.old.conn tx.new.conn (λ s. record s { certifiers = add_row certifier_key certifier.now s.certifiers }) result }
     ensures free { Tells (state S.Store tx.old.conn.now) (state S.Store tx.new.conn.now) (λ s. IsFree certifier_key s.certifiers (certifier_key certifier.now)) result }
-    ensures survives { LeavesNone (state S.Store tx.old.conn.now) (state S.Store tx.new.conn.now) }
 {
     insert_certifier(tx, certifier.user, certifier.procedure.number() as u32)?;
     Ok(())
@@ -90,9 +81,8 @@ fn delete_certifier<S: Alter>(
     user: u32,
     procedure: u32,
 ) -> Result<usize, Fault>
-    ensures same_reference { tx.new.conn.ghost_name ≡ tx.old.conn.ghost_name }
+    ensures frame { Frame S.Store tx.old.conn tx.new.conn }
     ensures runs { RunsInside remove_certifier_text (Int (pos user) ∷ Int (pos procedure) ∷ []) (state S.Store tx.old.conn.now) (state S.Store tx.new.conn.now) result }
-    ensures survives { LeavesNone (state S.Store tx.old.conn.now) (state S.Store tx.new.conn.now) }
 {
     run(
         tx,
@@ -106,9 +96,7 @@ pub fn remove_certifier<S: Alter>(
     tx: &mut Transaction<'_, S>,
     certifier: &Certifier,
 ) -> Result<(), Fault>
-    ensures same_reference { tx.new.conn.ghost_name ≡ tx.old.conn.ghost_name }
-    ensures steps { Steps (state S.Store tx.old.conn.now) (state S.Store tx.new.conn.now) (λ s. record s { certifiers = delete_rows certifier_key (certifier_key certifier.now) s.certifiers }) result }
-    ensures survives { LeavesNone (state S.Store tx.old.conn.now) (state S.Store tx.new.conn.now) }
+    ensures step { Step S.Store tx.old.conn tx.new.conn (λ s. record s { certifiers = delete_rows certifier_key (certifier_key certifier.now) s.certifiers }) result }
 {
     delete_certifier(tx, certifier.user, certifier.procedure.number() as u32)?;
     Ok(())

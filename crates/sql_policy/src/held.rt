@@ -1,11 +1,10 @@
 //! The triples of a user and the relations of a procedure, read together with the members of their sets.
 
-ghost use Rattle.std.specs.Prelude.{◌≡◌, map, IsTrue};
+ghost use Rattle.std.specs.Prelude.{◌≡◌, map};
 ghost use Rattle.std.specs.List.{filter};
 ghost use Rattle.sqlite.specs.Held.{state};
-ghost use Rattle.sqlite.specs.State.{HasCleanDisk};
 ghost use Rattle.bank_policy.specs.HeldRows.{is_relation_of, is_triple_of};
-ghost use Rattle.sql_schema.specs.Steps.{FindsHeld, FindsHeldInside, LeavesNone, Stays, WasOpen};
+ghost use Rattle.sql_schema.specs.Steps.{FindsHeld, FindsHeldInside, Reads, Step};
 ghost use Rattle.sql_policy.specs.HeldRows.{certified_in, held_in};
 
 use crate::members::members_of;
@@ -23,11 +22,8 @@ fn held_row<S: Alter>(
     tx: &mut Transaction<'_, S>,
     triple: &Triple,
 ) -> Result<HeldRow, Fault>
-    ensures same_reference { tx.new.conn.ghost_name ≡ tx.old.conn.ghost_name }
+    ensures reads { Reads S.Store tx.old.conn tx.new.conn result }
     ensures found { FindsHeld (state S.Store tx.old.conn.now) (state S.Store tx.new.conn.now) result (λ s row. row ≡ held_in s triple.now) }
-    ensures steps { Stays (state S.Store tx.old.conn.now) (state S.Store tx.new.conn.now) result }
-    ensures open { WasOpen (state S.Store tx.old.conn.now) (state S.Store tx.new.conn.now) result }
-    ensures survives { LeavesNone (state S.Store tx.old.conn.now) (state S.Store tx.new.conn.now) }
 {
     let members = members_of(alloc, tx, triple.set)?;
     Ok(HeldRow::new(*triple, members))
@@ -39,11 +35,8 @@ fn held_rows<S: Alter>(
     tx: &mut Transaction<'_, S>,
     triples: &[Triple],
 ) -> Result<Vec<HeldRow>, Fault>
-    ensures same_reference { tx.new.conn.ghost_name ≡ tx.old.conn.ghost_name }
+    ensures step { Step S.Store tx.old.conn tx.new.conn (λ s. s) result }
     ensures found { FindsHeldInside (state S.Store tx.old.conn.now) (state S.Store tx.new.conn.now) result (λ s rows. rows.items ≡ map (held_in s) triples.now) }
-    ensures steps { Stays (state S.Store tx.old.conn.now) (state S.Store tx.new.conn.now) result }
-    ensures open { HasCleanDisk (state S.Store tx.new.conn.now) → IsTrue (state S.Store tx.new.conn.now).is_open → IsTrue (state S.Store tx.old.conn.now).is_open }
-    ensures survives { LeavesNone (state S.Store tx.old.conn.now) (state S.Store tx.new.conn.now) }
 {
     let mut rows = Vec::new(alloc);
     for triple in triples {
@@ -59,11 +52,8 @@ pub fn triples_of<S: Alter>(
     user: u32,
     procedure: Procedure,
 ) -> Result<Vec<HeldRow>, Fault>
-    ensures same_reference { tx.new.conn.ghost_name ≡ tx.old.conn.ghost_name }
+    ensures reads { Reads S.Store tx.old.conn tx.new.conn result }
     ensures found { FindsHeldInside (state S.Store tx.old.conn.now) (state S.Store tx.new.conn.now) result (λ s rows. rows.items ≡ map (held_in s) (filter (is_triple_of user procedure) s.triples)) }
-    ensures steps { Stays (state S.Store tx.old.conn.now) (state S.Store tx.new.conn.now) result }
-    ensures open { WasOpen (state S.Store tx.old.conn.now) (state S.Store tx.new.conn.now) result }
-    ensures survives { LeavesNone (state S.Store tx.old.conn.now) (state S.Store tx.new.conn.now) }
 {
     let triples = triples_in(tx, user, procedure)?;
     held_rows(alloc, tx, &triples)
@@ -75,11 +65,8 @@ fn certified_row<S: Alter>(
     tx: &mut Transaction<'_, S>,
     relation: &Relation,
 ) -> Result<CertifiedRow, Fault>
-    ensures same_reference { tx.new.conn.ghost_name ≡ tx.old.conn.ghost_name }
+    ensures reads { Reads S.Store tx.old.conn tx.new.conn result }
     ensures found { FindsHeld (state S.Store tx.old.conn.now) (state S.Store tx.new.conn.now) result (λ s row. row ≡ certified_in s relation.now) }
-    ensures steps { Stays (state S.Store tx.old.conn.now) (state S.Store tx.new.conn.now) result }
-    ensures open { WasOpen (state S.Store tx.old.conn.now) (state S.Store tx.new.conn.now) result }
-    ensures survives { LeavesNone (state S.Store tx.old.conn.now) (state S.Store tx.new.conn.now) }
 {
     let members = members_of(alloc, tx, relation.set)?;
     Ok(CertifiedRow::new(*relation, members))
@@ -91,11 +78,8 @@ fn certified_rows<S: Alter>(
     tx: &mut Transaction<'_, S>,
     relations: &[Relation],
 ) -> Result<Vec<CertifiedRow>, Fault>
-    ensures same_reference { tx.new.conn.ghost_name ≡ tx.old.conn.ghost_name }
+    ensures step { Step S.Store tx.old.conn tx.new.conn (λ s. s) result }
     ensures found { FindsHeldInside (state S.Store tx.old.conn.now) (state S.Store tx.new.conn.now) result (λ s rows. rows.items ≡ map (certified_in s) relations.now) }
-    ensures steps { Stays (state S.Store tx.old.conn.now) (state S.Store tx.new.conn.now) result }
-    ensures open { HasCleanDisk (state S.Store tx.new.conn.now) → IsTrue (state S.Store tx.new.conn.now).is_open → IsTrue (state S.Store tx.old.conn.now).is_open }
-    ensures survives { LeavesNone (state S.Store tx.old.conn.now) (state S.Store tx.new.conn.now) }
 {
     let mut rows = Vec::new(alloc);
     for relation in relations {
@@ -110,11 +94,8 @@ pub fn relations_of<S: Alter>(
     tx: &mut Transaction<'_, S>,
     procedure: Procedure,
 ) -> Result<Vec<CertifiedRow>, Fault>
-    ensures same_reference { tx.new.conn.ghost_name ≡ tx.old.conn.ghost_name }
+    ensures reads { Reads S.Store tx.old.conn tx.new.conn result }
     ensures found { FindsHeldInside (state S.Store tx.old.conn.now) (state S.Store tx.new.conn.now) result (λ s rows. rows.items ≡ map (certified_in s) (filter (is_relation_of procedure) s.relations)) }
-    ensures steps { Stays (state S.Store tx.old.conn.now) (state S.Store tx.new.conn.now) result }
-    ensures open { WasOpen (state S.Store tx.old.conn.now) (state S.Store tx.new.conn.now) result }
-    ensures survives { LeavesNone (state S.Store tx.old.conn.now) (state S.Store tx.new.conn.now) }
 {
     let relations = relations_in(tx, procedure)?;
     certified_rows(alloc, tx, &relations)

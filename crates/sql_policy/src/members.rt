@@ -7,7 +7,7 @@ ghost use Rattle.sqlite.specs.declared.types.Value.TheVariants.{Int};
 ghost use Rattle.keyed_rows.specs.Ordered.{add_row};
 ghost use Rattle.book_kept.specs.Named.{IsFree};
 ghost use Rattle.book_kept.specs.Sheets.{member_no};
-ghost use Rattle.sql_schema.specs.Steps.{FindsHeld, LeavesNone, RunsInside, Stays, Steps, Tells, WasOpen};
+ghost use Rattle.sql_schema.specs.Steps.{FindsHeld, Frame, Reads, RunsInside, Step, Tells};
 ghost use Rattle.sql_policy.specs.Tests.{is_member_of};
 ghost use Rattle.sql_policy.specs.Texts.{add_member_text};
 
@@ -35,11 +35,8 @@ pub fn members_of<S: Alter>(
     tx: &mut Transaction<'_, S>,
     set: u32,
 ) -> Result<Vec<Member>, Fault>
-    ensures same_reference { tx.new.conn.ghost_name ≡ tx.old.conn.ghost_name }
+    ensures reads { Reads S.Store tx.old.conn tx.new.conn result }
     ensures found { FindsHeld (state S.Store tx.old.conn.now) (state S.Store tx.new.conn.now) result (λ s members. members.items ≡ map (λ m. m.member) (filter (is_member_of set) s.members)) }
-    ensures steps { Stays (state S.Store tx.old.conn.now) (state S.Store tx.new.conn.now) result }
-    ensures open { WasOpen (state S.Store tx.old.conn.now) (state S.Store tx.new.conn.now) result }
-    ensures survives { LeavesNone (state S.Store tx.old.conn.now) (state S.Store tx.new.conn.now) }
 {
     let rows = listed(
         tx,
@@ -54,10 +51,9 @@ fn insert_member<S: Alter>(
     member: &MemberRow,
     kind: u32,
 ) -> Result<usize, Fault>
-    ensures same_reference { tx.new.conn.ghost_name ≡ tx.old.conn.ghost_name }
+    ensures frame { Frame S.Store tx.old.conn tx.new.conn }
     ensures runs { RunsInside add_member_text (Int (pos member.now.set) ∷ Int (pos member.now.place) ∷ Int (pos kind) ∷ Int (pos member.now.member.low) ∷ Int (pos member.now.member.high) ∷ []) (state S.Store tx.old.conn.now) (state S.Store tx.new.conn.now) result }
     ensures small { member.now.place < 2 ^ 32 }
-    ensures survives { LeavesNone (state S.Store tx.old.conn.now) (state S.Store tx.new.conn.now) }
 {
     run(
         tx,
@@ -74,10 +70,8 @@ fn insert_member<S: Alter>(
 
 /// Adds a member of a set at its place. One that is there already is a fault of the disk.
 pub fn add_member<S: Alter>(tx: &mut Transaction<'_, S>, member: &MemberRow) -> Result<(), Fault>
-    ensures same_reference { tx.new.conn.ghost_name ≡ tx.old.conn.ghost_name }
-    ensures steps { Steps (state S.Store tx.old.conn.now) (state S.Store tx.new.conn.now) (λ s. record s { members = add_row member_no member.now s.members }) result }
+    ensures step { Step S.Store tx.old.conn tx.new.conn (λ s. record s { members = add_row member_no member.now s.members }) result }
     ensures free { Tells (state S.Store tx.old.conn.now) (state S.Store tx.new.conn.now) (λ s. IsFree member_no s.members (member_no member.now)) result }
-    ensures survives { LeavesNone (state S.Store tx.old.conn.now) (state S.Store tx.new.conn.now) }
 {
     let kind = kind_number(member.member.kind);
     insert_member(tx, member, kind)?;

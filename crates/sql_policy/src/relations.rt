@@ -7,7 +7,7 @@ ghost use Rattle.sqlite.specs.declared.types.Value.TheVariants.{Int};
 ghost use Rattle.keyed_rows.specs.Changed.{delete_rows};
 ghost use Rattle.keyed_rows.specs.Ordered.{add_row};
 ghost use Rattle.book_kept.specs.Named.{IsFree};
-ghost use Rattle.sql_schema.specs.Steps.{FindsHeld, LeavesNone, RunsInside, Stays, Steps, Tells, WasOpen};
+ghost use Rattle.sql_schema.specs.Steps.{FindsHeld, Frame, Reads, RunsInside, Step, Tells};
 ghost use Rattle.bank_policy.specs.HeldRows.{is_relation_of};
 ghost use Rattle.bank_policy.specs.PolicyKeys.{relation_key, relation_number};
 ghost use Rattle.bank_policy.specs.PolicyWrites.{is_triple_on};
@@ -25,11 +25,8 @@ pub fn relation_of<S: Alter>(
     procedure: Procedure,
     set: u32,
 ) -> Result<Option<Relation>, Fault>
-    ensures same_reference { tx.new.conn.ghost_name ≡ tx.old.conn.ghost_name }
+    ensures reads { Reads S.Store tx.old.conn tx.new.conn result }
     ensures found { FindsHeld (state S.Store tx.old.conn.now) (state S.Store tx.new.conn.now) result (λ s found. found ≡ find (λ r. relation_key r == relation_number procedure set) s.relations) }
-    ensures steps { Stays (state S.Store tx.old.conn.now) (state S.Store tx.new.conn.now) result }
-    ensures open { WasOpen (state S.Store tx.old.conn.now) (state S.Store tx.new.conn.now) result }
-    ensures survives { LeavesNone (state S.Store tx.old.conn.now) (state S.Store tx.new.conn.now) }
 {
     picked(
         tx,
@@ -43,11 +40,8 @@ pub fn relations_in<S: Alter>(
     tx: &mut Transaction<'_, S>,
     procedure: Procedure,
 ) -> Result<Vec<Relation>, Fault>
-    ensures same_reference { tx.new.conn.ghost_name ≡ tx.old.conn.ghost_name }
+    ensures reads { Reads S.Store tx.old.conn tx.new.conn result }
     ensures found { FindsHeld (state S.Store tx.old.conn.now) (state S.Store tx.new.conn.now) result (λ s list. list.items ≡ filter (is_relation_of procedure) s.relations) }
-    ensures steps { Stays (state S.Store tx.old.conn.now) (state S.Store tx.new.conn.now) result }
-    ensures open { WasOpen (state S.Store tx.old.conn.now) (state S.Store tx.new.conn.now) result }
-    ensures survives { LeavesNone (state S.Store tx.old.conn.now) (state S.Store tx.new.conn.now) }
 {
     listed(
         tx,
@@ -61,10 +55,9 @@ fn insert_relation<S: Alter>(
     relation: &Relation,
     procedure: u32,
 ) -> Result<usize, Fault>
-    ensures same_reference { tx.new.conn.ghost_name ≡ tx.old.conn.ghost_name }
+    ensures frame { Frame S.Store tx.old.conn tx.new.conn }
     ensures runs { RunsInside add_relation_text (Int (pos procedure) ∷ Int (pos relation.now.set) ∷ Int (pos relation.now.by) ∷ []) (state S.Store tx.old.conn.now) (state S.Store tx.new.conn.now) result }
     ensures small { relation.now.set < 2 ^ 32 }
-    ensures survives { LeavesNone (state S.Store tx.old.conn.now) (state S.Store tx.new.conn.now) }
 {
     run(
         tx,
@@ -75,10 +68,8 @@ fn insert_relation<S: Alter>(
 
 /// Adds a relation. One of its key that is there already is a fault of the disk.
 pub fn add_relation<S: Alter>(tx: &mut Transaction<'_, S>, relation: &Relation) -> Result<(), Fault>
-    ensures same_reference { tx.new.conn.ghost_name ≡ tx.old.conn.ghost_name }
-    ensures steps { Steps (state S.Store tx.old.conn.now) (state S.Store tx.new.conn.now) (λ s. record s { relations = add_row relation_key relation.now s.relations }) result }
+    ensures step { Step S.Store tx.old.conn tx.new.conn (λ s. record s { relations = add_row relation_key relation.now s.relations }) result }
     ensures free { Tells (state S.Store tx.old.conn.now) (state S.Store tx.new.conn.now) (λ s. IsFree relation_key s.relations (relation_key relation.now)) result }
-    ensures survives { LeavesNone (state S.Store tx.old.conn.now) (state S.Store tx.new.conn.now) }
 {
     let procedure = relation.procedure.number() as u32;
     insert_relation(tx, relation, procedure)?;
@@ -90,10 +81,9 @@ fn delete_relation<S: Alter>(
     key: &RelationKey,
     procedure: u32,
 ) -> Result<usize, Fault>
-    ensures same_reference { tx.new.conn.ghost_name ≡ tx.old.conn.ghost_name }
+    ensures frame { Frame S.Store tx.old.conn tx.new.conn }
     ensures runs { RunsInside remove_relation_text (Int (pos procedure) ∷ Int (pos key.now.set) ∷ []) (state S.Store tx.old.conn.now) (state S.Store tx.new.conn.now) result }
     ensures small { key.now.set < 2 ^ 32 }
-    ensures survives { LeavesNone (state S.Store tx.old.conn.now) (state S.Store tx.new.conn.now) }
 {
     run(
         tx,
@@ -107,9 +97,7 @@ pub fn remove_relation<S: Alter>(
     tx: &mut Transaction<'_, S>,
     key: &RelationKey,
 ) -> Result<(), Fault>
-    ensures same_reference { tx.new.conn.ghost_name ≡ tx.old.conn.ghost_name }
-    ensures steps { Steps (state S.Store tx.old.conn.now) (state S.Store tx.new.conn.now) (λ s. record s { relations = delete_rows relation_key (relation_number key.now.procedure key.now.set) s.relations; triples = filter (λ row. not (is_triple_on key.now row)) s.triples }) result }
-    ensures survives { LeavesNone (state S.Store tx.old.conn.now) (state S.Store tx.new.conn.now) }
+    ensures step { Step S.Store tx.old.conn tx.new.conn (λ s. record s { relations = delete_rows relation_key (relation_number key.now.procedure key.now.set) s.relations; triples = filter (λ row. not (is_triple_on key.now row)) s.triples }) result }
 {
     let procedure = key.procedure.number() as u32;
     delete_relation(tx, key, procedure)?;

@@ -8,7 +8,7 @@ ghost use Rattle.sqlite.specs.declared.types.Value.TheVariants.{Int};
 ghost use Rattle.keyed_rows.specs.Changed.{delete_rows};
 ghost use Rattle.keyed_rows.specs.Ordered.{add_row};
 ghost use Rattle.book_kept.specs.Named.{IsFree};
-ghost use Rattle.sql_schema.specs.Steps.{FindsHeld, LeavesNone, RunsInside, Stays, Steps, Tells, WasOpen};
+ghost use Rattle.sql_schema.specs.Steps.{FindsHeld, Frame, Reads, RunsInside, Step, Tells};
 ghost use Rattle.bank_policy.specs.HeldRows.{is_triple_of};
 ghost use Rattle.bank_policy.specs.PolicyKeys.{triple_key, triple_number};
 ghost use Rattle.sql_schema.specs.Cells.{TripleFits, triple_cells};
@@ -24,11 +24,8 @@ use sqlite::{Alter, Row, Transaction, params};
 
 /// The rows of the user, by procedure and set.
 fn select_user_triples<S: Alter>(tx: &mut Transaction<'_, S>, user: u32) -> Result<Vec<Row>, Fault>
-    ensures same_reference { tx.new.conn.ghost_name ≡ tx.old.conn.ghost_name }
+    ensures reads { Reads S.Store tx.old.conn tx.new.conn result }
     ensures rows { FindsHeld (state S.Store tx.old.conn.now) (state S.Store tx.new.conn.now) result (λ s rows. length rows.items ≡ length (filter (is_triple_by user) s.triples)) }
-    ensures steps { Stays (state S.Store tx.old.conn.now) (state S.Store tx.new.conn.now) result }
-    ensures open { WasOpen (state S.Store tx.old.conn.now) (state S.Store tx.new.conn.now) result }
-    ensures survives { LeavesNone (state S.Store tx.old.conn.now) (state S.Store tx.new.conn.now) }
 {
     plain_rows(
         tx,
@@ -44,11 +41,8 @@ pub fn triple_of<S: Alter>(
     procedure: Procedure,
     set: u32,
 ) -> Result<Option<Triple>, Fault>
-    ensures same_reference { tx.new.conn.ghost_name ≡ tx.old.conn.ghost_name }
+    ensures reads { Reads S.Store tx.old.conn tx.new.conn result }
     ensures found { FindsHeld (state S.Store tx.old.conn.now) (state S.Store tx.new.conn.now) result (λ s found. found ≡ find (λ r. triple_key r == triple_number user procedure set) s.triples) }
-    ensures steps { Stays (state S.Store tx.old.conn.now) (state S.Store tx.new.conn.now) result }
-    ensures open { WasOpen (state S.Store tx.old.conn.now) (state S.Store tx.new.conn.now) result }
-    ensures survives { LeavesNone (state S.Store tx.old.conn.now) (state S.Store tx.new.conn.now) }
 {
     picked(
         tx,
@@ -63,11 +57,8 @@ pub fn triples_in<S: Alter>(
     user: u32,
     procedure: Procedure,
 ) -> Result<Vec<Triple>, Fault>
-    ensures same_reference { tx.new.conn.ghost_name ≡ tx.old.conn.ghost_name }
+    ensures reads { Reads S.Store tx.old.conn tx.new.conn result }
     ensures found { FindsHeld (state S.Store tx.old.conn.now) (state S.Store tx.new.conn.now) result (λ s list. list.items ≡ filter (is_triple_of user procedure) s.triples) }
-    ensures steps { Stays (state S.Store tx.old.conn.now) (state S.Store tx.new.conn.now) result }
-    ensures open { WasOpen (state S.Store tx.old.conn.now) (state S.Store tx.new.conn.now) result }
-    ensures survives { LeavesNone (state S.Store tx.old.conn.now) (state S.Store tx.new.conn.now) }
 {
     listed(
         tx,
@@ -78,11 +69,8 @@ pub fn triples_in<S: Alter>(
 
 /// How many triples the user has.
 pub fn triple_count<S: Alter>(tx: &mut Transaction<'_, S>, user: u32) -> Result<u64, Fault>
-    ensures same_reference { tx.new.conn.ghost_name ≡ tx.old.conn.ghost_name }
+    ensures reads { Reads S.Store tx.old.conn tx.new.conn result }
     ensures found { FindsHeld (state S.Store tx.old.conn.now) (state S.Store tx.new.conn.now) result (λ s count. count ≡ length (filter (is_triple_by user) s.triples)) }
-    ensures steps { Stays (state S.Store tx.old.conn.now) (state S.Store tx.new.conn.now) result }
-    ensures open { WasOpen (state S.Store tx.old.conn.now) (state S.Store tx.new.conn.now) result }
-    ensures survives { LeavesNone (state S.Store tx.old.conn.now) (state S.Store tx.new.conn.now) }
 {
     let rows = select_user_triples(tx, user)?;
     Ok(rows.len() as u64)
@@ -116,9 +104,8 @@ fn cells_of(triple: &Triple) -> Result<TripleCells, Fault>
 }
 
 fn insert_triple<S: Alter>(tx: &mut Transaction<'_, S>, cells: &TripleCells) -> Result<usize, Fault>
-    ensures same_reference { tx.new.conn.ghost_name ≡ tx.old.conn.ghost_name }
+    ensures frame { Frame S.Store tx.old.conn tx.new.conn }
     ensures runs { RunsInside add_triple_text (given_triple cells.now) (state S.Store tx.old.conn.now) (state S.Store tx.new.conn.now) result }
-    ensures survives { LeavesNone (state S.Store tx.old.conn.now) (state S.Store tx.new.conn.now) }
 {
     run(
         tx,
@@ -136,10 +123,8 @@ fn insert_triple<S: Alter>(tx: &mut Transaction<'_, S>, cells: &TripleCells) -> 
 
 /// Adds a triple. One of its key that is there already is a fault of the disk, and so is one of no relation. A moment of more than 63 bits is a fault of size.
 pub fn add_triple<S: Alter>(tx: &mut Transaction<'_, S>, triple: &Triple) -> Result<(), Fault>
-    ensures same_reference { tx.new.conn.ghost_name ≡ tx.old.conn.ghost_name }
-    ensures steps { Steps (state S.Store tx.old.conn.now) (state S.Store tx.new.conn.now) (λ s. record s { triples = add_row triple_key triple.now s.triples }) result }
+    ensures step { Step S.Store tx.old.conn tx.new.conn (λ s. record s { triples = add_row triple_key triple.now s.triples }) result }
     ensures free { Tells (state S.Store tx.old.conn.now) (state S.Store tx.new.conn.now) (λ s. IsFree triple_key s.triples (triple_key triple.now)) result }
-    ensures survives { LeavesNone (state S.Store tx.old.conn.now) (state S.Store tx.new.conn.now) }
 {
     let cells = cells_of(triple)?;
     insert_triple(tx, &cells)?;
@@ -151,10 +136,9 @@ fn delete_triple<S: Alter>(
     key: &TripleKey,
     procedure: u32,
 ) -> Result<usize, Fault>
-    ensures same_reference { tx.new.conn.ghost_name ≡ tx.old.conn.ghost_name }
+    ensures frame { Frame S.Store tx.old.conn tx.new.conn }
     ensures runs { RunsInside remove_triple_text (Int (pos key.now.user) ∷ Int (pos procedure) ∷ Int (pos key.now.set) ∷ []) (state S.Store tx.old.conn.now) (state S.Store tx.new.conn.now) result }
     ensures small { key.now.set < 2 ^ 32 }
-    ensures survives { LeavesNone (state S.Store tx.old.conn.now) (state S.Store tx.new.conn.now) }
 {
     run(
         tx,
@@ -165,9 +149,7 @@ fn delete_triple<S: Alter>(
 
 /// Takes a triple away. One that isn't there is passed over.
 pub fn remove_triple<S: Alter>(tx: &mut Transaction<'_, S>, key: &TripleKey) -> Result<(), Fault>
-    ensures same_reference { tx.new.conn.ghost_name ≡ tx.old.conn.ghost_name }
-    ensures steps { Steps (state S.Store tx.old.conn.now) (state S.Store tx.new.conn.now) (λ s. record s { triples = delete_rows triple_key (triple_number key.now.user key.now.procedure key.now.set) s.triples }) result }
-    ensures survives { LeavesNone (state S.Store tx.old.conn.now) (state S.Store tx.new.conn.now) }
+    ensures step { Step S.Store tx.old.conn tx.new.conn (λ s. record s { triples = delete_rows triple_key (triple_number key.now.user key.now.procedure key.now.set) s.triples }) result }
 {
     let procedure = key.procedure.number() as u32;
     delete_triple(tx, key, procedure)?;

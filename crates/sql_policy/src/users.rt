@@ -9,7 +9,7 @@ ghost use Rattle.keyed_rows.specs.Ordered.{add_row};
 ghost use Rattle.book_kept.specs.Named.{IsFree};
 ghost use Rattle.book_kept.specs.Sheets.{set_row, user_no};
 ghost use Rattle.sql_schema.specs.Numbers.{truth_cell};
-ghost use Rattle.sql_schema.specs.Steps.{FindsHeld, LeavesNone, RunsInside, Stays, Steps, Tells, WasOpen};
+ghost use Rattle.sql_schema.specs.Steps.{FindsHeld, Frame, Reads, RunsInside, Step, Tells};
 ghost use Rattle.sql_schema.specs.Shown.{shown_user};
 ghost use Rattle.sql_policy.specs.Given.{given_user};
 ghost use Rattle.sql_policy.specs.Texts.{add_user_text, set_user_text};
@@ -21,11 +21,8 @@ use sqlite::{Alter, Transaction, params};
 
 /// The user of this number, if there is one, with how many releases they were given.
 pub fn user_of<S: Alter>(tx: &mut Transaction<'_, S>, user: u32) -> Result<Option<KeptUser>, Fault>
-    ensures same_reference { tx.new.conn.ghost_name ≡ tx.old.conn.ghost_name }
+    ensures reads { Reads S.Store tx.old.conn tx.new.conn result }
     ensures found { FindsHeld (state S.Store tx.old.conn.now) (state S.Store tx.new.conn.now) result (λ s found. found ≡ find (λ u. user_no u == user) s.users) }
-    ensures steps { Stays (state S.Store tx.old.conn.now) (state S.Store tx.new.conn.now) result }
-    ensures open { WasOpen (state S.Store tx.old.conn.now) (state S.Store tx.new.conn.now) result }
-    ensures survives { LeavesNone (state S.Store tx.old.conn.now) (state S.Store tx.new.conn.now) }
 {
     picked(tx, select_users!("WHERE user_no = ?1"), params![user])
 }
@@ -66,9 +63,8 @@ fn insert_user<S: Alter>(
     cells: &UserCells,
     name: &str,
 ) -> Result<usize, Fault>
-    ensures same_reference { tx.new.conn.ghost_name ≡ tx.old.conn.ghost_name }
+    ensures frame { Frame S.Store tx.old.conn tx.new.conn }
     ensures runs { RunsInside add_user_text (given_user cells.now name.now) (state S.Store tx.old.conn.now) (state S.Store tx.new.conn.now) result }
-    ensures survives { LeavesNone (state S.Store tx.old.conn.now) (state S.Store tx.new.conn.now) }
 {
     run(
         tx,
@@ -87,10 +83,8 @@ fn insert_user<S: Alter>(
 
 /// Adds a user. A number that is taken is a fault of the disk, and a count of releases over 63 bits one of size.
 pub fn add_user<S: Alter>(tx: &mut Transaction<'_, S>, kept: &KeptUser) -> Result<(), Fault>
-    ensures same_reference { tx.new.conn.ghost_name ≡ tx.old.conn.ghost_name }
-    ensures steps { Steps (state S.Store tx.old.conn.now) (state S.Store tx.new.conn.now) (λ s. record s { users = add_row user_no kept.now s.users }) result }
+    ensures step { Step S.Store tx.old.conn tx.new.conn (λ s. record s { users = add_row user_no kept.now s.users }) result }
     ensures free { Tells (state S.Store tx.old.conn.now) (state S.Store tx.new.conn.now) (λ s. IsFree user_no s.users (user_no kept.now)) result }
-    ensures survives { LeavesNone (state S.Store tx.old.conn.now) (state S.Store tx.new.conn.now) }
 {
     let cells = cells_of(kept)?;
     insert_user(tx, &cells, kept.row.name.as_str())?;
@@ -102,9 +96,8 @@ fn update_user<S: Alter>(
     cells: &UserCells,
     name: &str,
 ) -> Result<usize, Fault>
-    ensures same_reference { tx.new.conn.ghost_name ≡ tx.old.conn.ghost_name }
+    ensures frame { Frame S.Store tx.old.conn tx.new.conn }
     ensures runs { RunsInside set_user_text (given_user cells.now name.now) (state S.Store tx.old.conn.now) (state S.Store tx.new.conn.now) result }
-    ensures survives { LeavesNone (state S.Store tx.old.conn.now) (state S.Store tx.new.conn.now) }
 {
     run(
         tx,
@@ -124,9 +117,7 @@ fn update_user<S: Alter>(
 /// Writes this user in place of the one of the same number. Where there is none it writes nothing. A count of releases
 /// of more than 63 bits is a fault of size.
 pub fn set_user<S: Alter>(tx: &mut Transaction<'_, S>, kept: &KeptUser) -> Result<(), Fault>
-    ensures same_reference { tx.new.conn.ghost_name ≡ tx.old.conn.ghost_name }
-    ensures steps { Steps (state S.Store tx.old.conn.now) (state S.Store tx.new.conn.now) (λ s. record s { users = set_row user_no kept.now s.users }) result }
-    ensures survives { LeavesNone (state S.Store tx.old.conn.now) (state S.Store tx.new.conn.now) }
+    ensures step { Step S.Store tx.old.conn tx.new.conn (λ s. record s { users = set_row user_no kept.now s.users }) result }
 {
     let cells = cells_of(kept)?;
     update_user(tx, &cells, kept.row.name.as_str())?;

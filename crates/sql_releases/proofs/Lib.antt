@@ -1,3 +1,4 @@
 pub mod ReleaseLemmas
 pub mod SlipCountLemmas
 pub mod SlipLemmas
+pub mod TableLemmas

@@ -1,43 +1,16 @@
 -- What the statements on the slips do.
 use Rattle.std.proofs.Common.{◌≡◌, ◌/◌, ◌<◌, ◌^◌, ◌≤◌, ℕ, pos, List, [], ◌∷◌, map, filter, drop, length, codes, Bool, true, false, Ok, refl, ap, sym, ◌∙◌, subst, ◌==◌, ◌&&◌, slice_index_or}
-use Rattle.std.specs.List.{find, cons_option}
-use Rattle.sqlite.specs.declared.types.Value.TheVariants.{Null, Int}
-use Rattle.sqlite.specs.Command.TheVariants.{Insert, Select}
-use Rattle.sqlite.specs.Edit.{edit_of}
-use Rattle.sqlite.specs.Effect.{value_rows}
-use Rattle.sqlite.specs.Listing.{understood, reads_listing}
-use Rattle.sqlite.specs.Order.{Row}
-use Rattle.sqlite.specs.Query.{output}
-use Rattle.sqlite.specs.Rowids.TheVariants.{Chosen}
-use Rattle.sqlite.specs.Source.TheVariants.{Values}
-use Rattle.sqlite.specs.State.{Executes, Shown, State}
-use Rattle.sqlite.specs.Term.{Term, col, lit}
-use Rattle.sqlite.specs.Tree.{Trees}
-use Rattle.sqlite.proofs.Callers.{IsPlain, command_of}
-use Rattle.sqlite_rules.specs.Edit.{next_rowid}
-use Rattle.sqlite_schema.specs.Rules.{agree}
+use Rattle.sqlite.specs.Listing.{understood}
 use Rattle.sqlite_tied.specs.Compute.{everything}
-use Rattle.sqlite_value.specs.Keys.{plain}
-use Rattle.keyed_rows.specs.Ordered.{add_row}
-use Rattle.bank_terms.specs.Procedure.{number_of}
 use Rattle.bank_books.specs.Keys.{slip_key, slip_number}
 use Rattle.bank_books.specs.SlipRow.{SlipRow}
 use Rattle.book_kept.specs.Named.{IsFree}
-use Rattle.book_kept.specs.Sheets.{Sheets}
 use Rattle.sql_schema.specs.Cells.{SlipFits, slip_cells}
-use Rattle.sql_schema.specs.Held.{HoldsTables}
 use Rattle.sql_schema.specs.Held.Sheet.{slips as in_slips}
-use Rattle.sql_schema.specs.HeldRows.{HoldsRows, all_but_rowid}
-use Rattle.sql_schema.specs.Schema.{bank_schema, slips_index, slips_table}
+use Rattle.sql_schema.specs.Schema.{slips_index, slips_table}
 use Rattle.sql_schema.proofs.NamedTables.{slips_index_there, slips_there}
 use Rattle.sql_schema.proofs.FrameLemmas.{with_slips}
-use Rattle.sql_schema.proofs.HeldLemmas.{picked_alike}
-use Rattle.sql_schema.proofs.InsertLemmas.{adds_by_columns, apart_by_index, parts_of, puts, two_agree}
-use Rattle.sql_schema.proofs.KeyLemmas.{one_of_key}
-use Rattle.sql_schema.proofs.ReadLemmas.{alone, answered, by_two, no_limit, no_offset, two_equal}
-use Rattle.sql_schema.proofs.ScanLemmas.{passes, scan}
-use Rattle.sql_schema.proofs.WriteLemmas.{cast_int, cast_null, inserts}
-use Rattle.sql_schema.proofs.KeyTests.{at_most_one, few_mapped, two_parts}
+use Rattle.sql_schema.proofs.TableNames.{find, cons_option, Null, Int, Insert, Select, edit_of, value_rows, reads_listing, Row, output, Chosen, Values, Executes, Shown, State, Term, col, lit, Trees, IsPlain, command_of, next_rowid, agree, plain, add_row, number_of, Sheets, HoldsTables, HoldsRows, all_but_rowid, bank_schema, picked_alike, adds_by_columns, apart_by_index, parts_of, puts, two_agree, one_of_key, alone, answered, by_two, no_limit, no_offset, two_equal, passes, scan, cast_int, cast_null, inserts, at_most_one, few_mapped, two_parts}
 use Rattle.sql_releases.specs.Texts.{add_slip_text, slip_text}
 
 -- ---- SELECT

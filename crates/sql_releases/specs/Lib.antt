@@ -1,2 +1,4 @@
 pub mod Given
+pub mod SlipCountLaws
+pub mod Tables
 pub mod Texts

@@ -5,10 +5,12 @@
 //! through, and which fault it gives, is not said.
 #![tactic(auto)]
 
+mod by_law;
 mod releases;
 mod slip_counts;
 mod slips;
 
+pub use by_law::{Listed, add_by, set_by};
 pub use releases::{add_release, release_of, use_up};
 pub use slip_counts::{add_slip_count, set_slip_count, slip_count_of};
 pub use slips::{add_slip, slip_of};

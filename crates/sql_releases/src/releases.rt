@@ -9,7 +9,7 @@ ghost use Rattle.bank_books.specs.Keys.{release_key, release_number};
 ghost use Rattle.book_kept.specs.Changes.{used_sheets};
 ghost use Rattle.sql_schema.specs.Cells.{ReleaseFits, release_cells};
 ghost use Rattle.sql_schema.specs.Numbers.{truth_cell};
-ghost use Rattle.sql_schema.specs.Steps.{FindsHeld, LeavesNone, RunsInside, Stays, Steps, WasOpen};
+ghost use Rattle.sql_schema.specs.Steps.{FindsHeld, Frame, Reads, RunsInside, Step};
 ghost use Rattle.sql_releases.specs.Given.{given_release};
 ghost use Rattle.sql_releases.specs.Texts.{add_release_text, use_up_text};
 
@@ -24,11 +24,8 @@ pub fn release_of<S: Alter>(
     user: u32,
     number: u32,
 ) -> Result<Option<Release>, Fault>
-    ensures same_reference { tx.new.conn.ghost_name ≡ tx.old.conn.ghost_name }
+    ensures reads { Reads S.Store tx.old.conn tx.new.conn result }
     ensures found { FindsHeld (state S.Store tx.old.conn.now) (state S.Store tx.new.conn.now) result (λ s found. found ≡ find (λ r. release_key r == release_number user number) s.releases) }
-    ensures steps { Stays (state S.Store tx.old.conn.now) (state S.Store tx.new.conn.now) result }
-    ensures open { WasOpen (state S.Store tx.old.conn.now) (state S.Store tx.new.conn.now) result }
-    ensures survives { LeavesNone (state S.Store tx.old.conn.now) (state S.Store tx.new.conn.now) }
 {
     picked(
         tx,
@@ -91,9 +88,8 @@ fn insert_release<S: Alter>(
     tx: &mut Transaction<'_, S>,
     cells: &ReleaseCells,
 ) -> Result<usize, Fault>
-    ensures same_reference { tx.new.conn.ghost_name ≡ tx.old.conn.ghost_name }
+    ensures frame { Frame S.Store tx.old.conn tx.new.conn }
     ensures runs { RunsInside add_release_text (given_release cells.now) (state S.Store tx.old.conn.now) (state S.Store tx.new.conn.now) result }
-    ensures survives { LeavesNone (state S.Store tx.old.conn.now) (state S.Store tx.new.conn.now) }
 {
     run(
         tx,
@@ -120,9 +116,7 @@ fn insert_release<S: Alter>(
 
 /// Adds a release. One of its user and number that is there already is a fault of the disk.
 pub fn add_release<S: Alter>(tx: &mut Transaction<'_, S>, release: &Release) -> Result<(), Fault>
-    ensures same_reference { tx.new.conn.ghost_name ≡ tx.old.conn.ghost_name }
-    ensures steps { Steps (state S.Store tx.old.conn.now) (state S.Store tx.new.conn.now) (λ s. record s { releases = add_row release_key release.now s.releases }) result }
-    ensures survives { LeavesNone (state S.Store tx.old.conn.now) (state S.Store tx.new.conn.now) }
+    ensures step { Step S.Store tx.old.conn tx.new.conn (λ s. record s { releases = add_row release_key release.now s.releases }) result }
 {
     let cells = cells_of(release);
     insert_release(tx, &cells)?;
@@ -130,10 +124,9 @@ pub fn add_release<S: Alter>(tx: &mut Transaction<'_, S>, release: &Release) -> 
 }
 
 fn update_used<S: Alter>(tx: &mut Transaction<'_, S>, key: &ReleaseKey) -> Result<usize, Fault>
-    ensures same_reference { tx.new.conn.ghost_name ≡ tx.old.conn.ghost_name }
+    ensures frame { Frame S.Store tx.old.conn tx.new.conn }
     ensures runs { RunsInside use_up_text (Int (pos key.now.user) ∷ Int (pos key.now.number) ∷ []) (state S.Store tx.old.conn.now) (state S.Store tx.new.conn.now) result }
     ensures small { key.now.number < 2 ^ 32 }
-    ensures survives { LeavesNone (state S.Store tx.old.conn.now) (state S.Store tx.new.conn.now) }
 {
     run(
         tx,
@@ -144,9 +137,7 @@ fn update_used<S: Alter>(tx: &mut Transaction<'_, S>, key: &ReleaseKey) -> Resul
 
 /// Marks the release of this key as used. One that isn't there is passed over.
 pub fn use_up<S: Alter>(tx: &mut Transaction<'_, S>, key: &ReleaseKey) -> Result<(), Fault>
-    ensures same_reference { tx.new.conn.ghost_name ≡ tx.old.conn.ghost_name }
-    ensures steps { Steps (state S.Store tx.old.conn.now) (state S.Store tx.new.conn.now) (used_sheets key.now) result }
-    ensures survives { LeavesNone (state S.Store tx.old.conn.now) (state S.Store tx.new.conn.now) }
+    ensures step { Step S.Store tx.old.conn tx.new.conn (used_sheets key.now) result }
 {
     update_used(tx, key)?;
     Ok(())

@@ -7,7 +7,7 @@ ghost use Rattle.keyed_rows.specs.Ordered.{add_row};
 ghost use Rattle.bank_books.specs.Keys.{slip_key, slip_number};
 ghost use Rattle.book_kept.specs.Named.{IsFree};
 ghost use Rattle.sql_schema.specs.Cells.{SlipFits, slip_cells};
-ghost use Rattle.sql_schema.specs.Steps.{FindsHeld, LeavesNone, RunsInside, Stays, Steps, Tells, WasOpen};
+ghost use Rattle.sql_schema.specs.Steps.{FindsHeld, Frame, Reads, RunsInside, Step, Tells};
 ghost use Rattle.sql_releases.specs.Given.{given_slip};
 ghost use Rattle.sql_releases.specs.Texts.{add_slip_text};
 
@@ -22,11 +22,8 @@ pub fn slip_of<S: Alter>(
     user: u32,
     number: u32,
 ) -> Result<Option<Slip>, Fault>
-    ensures same_reference { tx.new.conn.ghost_name ≡ tx.old.conn.ghost_name }
+    ensures reads { Reads S.Store tx.old.conn tx.new.conn result }
     ensures found { FindsHeld (state S.Store tx.old.conn.now) (state S.Store tx.new.conn.now) result (λ s found. found ≡ find (λ r. slip_key r == slip_number user number) s.slips) }
-    ensures steps { Stays (state S.Store tx.old.conn.now) (state S.Store tx.new.conn.now) result }
-    ensures open { WasOpen (state S.Store tx.old.conn.now) (state S.Store tx.new.conn.now) result }
-    ensures survives { LeavesNone (state S.Store tx.old.conn.now) (state S.Store tx.new.conn.now) }
 {
     picked(
         tx,
@@ -77,9 +74,8 @@ fn insert_slip<S: Alter>(
     cells: &SlipCells,
     reply: &[u8],
 ) -> Result<usize, Fault>
-    ensures same_reference { tx.new.conn.ghost_name ≡ tx.old.conn.ghost_name }
+    ensures frame { Frame S.Store tx.old.conn tx.new.conn }
     ensures runs { RunsInside add_slip_text (given_slip cells.now reply.now) (state S.Store tx.old.conn.now) (state S.Store tx.new.conn.now) result }
-    ensures survives { LeavesNone (state S.Store tx.old.conn.now) (state S.Store tx.new.conn.now) }
 {
     run(
         tx,
@@ -103,11 +99,9 @@ fn insert_slip<S: Alter>(
 
 /// Adds a slip. One of its user and number that is there already is a fault of the disk.
 pub fn add_slip<S: Alter>(tx: &mut Transaction<'_, S>, slip: &Slip) -> Result<(), Fault>
-    ensures same_reference { tx.new.conn.ghost_name ≡ tx.old.conn.ghost_name }
-    ensures steps { Steps (state S.Store tx.old.conn.now) (state S.Store tx.new.conn.now) (λ s. record s { slips = add_row slip_key slip.now s.slips }) result }
+    ensures step { Step S.Store tx.old.conn tx.new.conn (λ s. record s { slips = add_row slip_key slip.now s.slips }) result }
     ensures free { Tells (state S.Store tx.old.conn.now) (state S.Store tx.new.conn.now) (λ s. IsFree slip_key s.slips (slip_key slip.now)) result }
     ensures small { slip.now.number < 2 ^ 32 }
-    ensures survives { LeavesNone (state S.Store tx.old.conn.now) (state S.Store tx.new.conn.now) }
 {
     let cells = cells_of(slip);
     insert_slip(tx, &cells, slip.reply())?;

@@ -12,9 +12,11 @@ pub mod PickedRows
 pub mod ReadLemmas
 pub mod ReadableLemmas
 pub mod RowsRead
-pub mod RowsTold
+pub mod RowsFound
 pub mod ScanLemmas
+pub mod StepChains
 pub mod StepLemmas
+pub mod TableNames
 pub mod WorldLemmas
 pub mod WorldReads
 pub mod WriteLemmas

@@ -17,7 +17,7 @@ use Rattle.money.specs.declared.fault.Fault.{Fault}
 use Rattle.sql_schema.specs.Faults.{IsNameOf}
 use Rattle.sql_schema.specs.Held.{HoldsTables}
 use Rattle.sql_schema.specs.Schema.{bank_schema}
-use Rattle.sql_schema.specs.Told.{Refuses, Runs}
+use Rattle.sql_schema.specs.ReadBack.{Refuses, Runs}
 use Rattle.sql_schema.specs.Steps.{LeavesNone}
 
 -- a query leaves the connection as it was

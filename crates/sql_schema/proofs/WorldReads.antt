@@ -1,5 +1,5 @@
 -- Reads of tables as reads of Worlds.
-use Rattle.std.proofs.Common.{◌≡◌, ◌∙◌, Result, Ok, Err, IsTrue, refl, subst}
+use Rattle.std.proofs.Common.{◌≡◌, Result, Ok, Err, IsTrue, refl, subst}
 use Rattle.std.specs.Prelude.{IfOk}
 use Rattle.std.proofs.lemmas.Result.{IfOk-weaker}
 use Rattle.sqlite.specs.State.{HasCleanDisk, State}
@@ -18,7 +18,7 @@ module _ {A E : Type 0} (old new : State) (finds : Sheets → A → Type 0) (say
   pub reads_inside : (HasCleanDisk new → IsTrue old.in_transaction → (s : Sheets) → HoldsTables old.now s → IfOk result (finds s))
       → Stays old new result → WasOpen old new result → LeavesNone old new → ReadsWorld old new says result
   reads_inside found steps stays survives = record {
-    told = λ clean inside w holds. IfOk-weaker result _ _ (means w holds.world.keepable) (found clean inside (sheets_of w) (tables_of old.now w holds));
+    stated = λ clean inside w holds. IfOk-weaker result _ _ (means w holds.world.keepable) (found clean inside (sheets_of w) (tables_of old.now w holds));
     moves = moves_nothing old new result steps;
     stays_open = stays;
     survives = survives;
@@ -40,7 +40,7 @@ pub reads_then : {A E : Type 0} (old new : State) (finds : Sheets → Type 0) (s
     → ((w : WorldLists) → IsKeepable w → finds (sheets_of w) → IfOk result (says w)) → (HasCleanDisk new → (s : Sheets) → HoldsTables old.now s → finds s)
     → Steps {X = Unit {0}} {E = E} old new (λ s. s) (Ok tt) → WasOpen {X = Unit {0}} {E = E} old new (Ok tt) → LeavesNone old new → ReadsWorld old new says result
 reads_then {A} {E} old new finds says result means found steps stays survives = record {
-  told = λ clean inside w holds. means w holds.world.keepable (found clean (sheets_of w) (tables_of old.now w holds));
+  stated = λ clean inside w holds. means w holds.world.keepable (found clean (sheets_of w) (tables_of old.now w holds));
   moves = moves_nothing old new result (λ clean inside s holds. let it = steps clean inside s holds in (always_ok result _ it.0, it.1));
   stays_open = λ clean. let it = stays clean in (always_ok result _ it.0, it.1);
   survives = survives;

@@ -13,4 +13,4 @@ fault_named _ = Disk
 
 -- a fault names an error of which this holds
 abbrev pub IsNameOf : (Error → Type 0) → Fault → Type 0
-IsNameOf Told fault = (e : Error) × Told e × (fault ≡ fault_named e)
+IsNameOf ReadBack fault = (e : Error) × ReadBack e × (fault ≡ fault_named e)

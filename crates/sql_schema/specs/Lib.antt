@@ -10,4 +10,4 @@ pub mod Reads
 pub mod Schema
 pub mod Shown
 pub mod Steps
-pub mod Told
+pub mod ReadBack

@@ -1,12 +1,15 @@
 -- Steps inside a transaction.
-use Rattle.std.specs.Prelude.{ℕ, IfOk, IsTrue, List, OnOk, Result}
+use Rattle.std.specs.Prelude.{ℕ, ◌≡◌, IfOk, IsTrue, List, OnOk, Result}
+use Rattle.std.specs.Borrow.{MutBor}
 use Rattle.money.specs.declared.fault.Fault.{Fault}
+use Rattle.sqlite.specs.Held.{Held, state}
 use Rattle.sqlite.specs.Order.{Row}
 use Rattle.sqlite.specs.State.{HasCleanDisk, KeepsCommit, State, Survives}
+use Rattle.sqlite_trees.specs.declared.store.Store.{Ghosts}
 use Rattle.bank_books.specs.WorldLists.{WorldLists}
 use Rattle.book_kept.specs.Sheets.{Sheets}
 use Rattle.sql_schema.specs.Held.{HoldsTables, HoldsWorld}
-use Rattle.sql_schema.specs.Told.{Runs}
+use Rattle.sql_schema.specs.ReadBack.{Runs}
 
 -- Where the tables held these rows they hold what the step makes of them, and nothing is committed. A step that is refused says nothing
 -- of what they hold, since the transaction is then rolled back.
@@ -54,3 +57,26 @@ RunsInside sql params old new result = HasCleanDisk new → IsTrue old.in_transa
 -- a connection that a call finds open was open, and one that answers is
 abbrev pub WasOpen : {X E : Type 0} → State → State → Result X E → Type 0
 WasOpen old new result = HasCleanDisk new → OnOk result (IsTrue old.is_open) × (IsTrue new.is_open → IsTrue old.is_open)
+
+-- The frame of every call inside a transaction: it is the same connection, of which a crash leaves nothing that it could not leave before.
+pub record Frame {S : Type 0} (store : Ghosts S) (was is : MutBor (Held S)) : Type 0 where
+  pub same : is.ghost_name ≡ was.ghost_name
+  pub survives : LeavesNone (state store was.now) (state store is.now)
+
+-- a step with its frame
+pub record Step {S X E : Type 0} (store : Ghosts S) (was is : MutBor (Held S)) (after : Sheets → Sheets) (result : Result X E) : Type 0 where
+  pub same : is.ghost_name ≡ was.ghost_name
+  pub survives : LeavesNone (state store was.now) (state store is.now)
+  pub steps : Steps (state store was.now) (state store is.now) after result
+
+-- a read with its frame, of a connection that was open
+pub record Reads {S X E : Type 0} (store : Ghosts S) (was is : MutBor (Held S)) (result : Result X E) : Type 0 where
+  pub same : is.ghost_name ≡ was.ghost_name
+  pub survives : LeavesNone (state store was.now) (state store is.now)
+  pub stays : Stays (state store was.now) (state store is.now) result
+  pub was_open : WasOpen (state store was.now) (state store is.now) result
+
+-- what a read that begins and ends its own transaction says of the connection
+pub record IsReadOnly {X E : Type 0} (old new : State) (result : Result X E) : Type 0 where
+  pub was_open : WasOpen old new result
+  pub survives : LeavesNone old new

@@ -6,8 +6,8 @@ ghost use Rattle.sqlite.specs.State.{HasCleanDisk, KeepsCounts, Shown, Shows, Su
 ghost use Rattle.sqlite.specs.Steps.{FailsToCommit};
 ghost use Rattle.sqlite.specs.Values.{bound};
 ghost use Rattle.sql_schema.specs.Faults.{IsNameOf};
-ghost use Rattle.sql_schema.specs.Told.{Refuses, Runs};
-ghost use Rattle.sql_schema.specs.Steps.{LeavesNone, RunsInside};
+ghost use Rattle.sql_schema.specs.ReadBack.{Refuses, Runs};
+ghost use Rattle.sql_schema.specs.Steps.{Frame, RunsInside};
 
 use crate::cells::fault_of;
 use money::Fault;
@@ -20,10 +20,9 @@ pub(crate) fn shown_rows<S: Alter>(
     sql: &str,
     params: &[ValueRef<'_>],
 ) -> Result<Vec<Row>, Fault>
-    ensures same_reference { tx.new.conn.ghost_name ≡ tx.old.conn.ghost_name }
+    ensures frame { Frame S.Store tx.old.conn tx.new.conn }
     ensures ok { HasCleanDisk (state S.Store tx.new.conn.now) → IfOk result (λ rows. Shown sql.now (bound params.now) (state S.Store tx.old.conn.now) (state S.Store tx.new.conn.now) rows.items) }
     ensures err { HasCleanDisk (state S.Store tx.new.conn.now) → IfErr result (IsNameOf (Refuses sql.now (bound params.now) (state S.Store tx.old.conn.now) (state S.Store tx.new.conn.now))) }
-    ensures survives { LeavesNone (state S.Store tx.old.conn.now) (state S.Store tx.new.conn.now) }
 {
     match tx.query_all(sql, params) {
         Ok(rows) => Ok(rows),
@@ -37,9 +36,8 @@ pub fn run<S: Alter>(
     sql: &str,
     params: &[ValueRef<'_>],
 ) -> Result<usize, Fault>
-    ensures same_reference { tx.new.conn.ghost_name ≡ tx.old.conn.ghost_name }
+    ensures frame { Frame S.Store tx.old.conn tx.new.conn }
     ensures runs { RunsInside sql.now (bound params.now) (state S.Store tx.old.conn.now) (state S.Store tx.new.conn.now) result }
-    ensures survives { LeavesNone (state S.Store tx.old.conn.now) (state S.Store tx.new.conn.now) }
 {
     match tx.execute(sql, params) {
         Ok(count) => Ok(count),

@@ -27,7 +27,7 @@ pub fn fault_of(error: Error) -> Fault
 
 /// A number of 32 bits in a row, whose columns count from 0. Any other value is a fault of the disk.
 pub fn number_at(row: &Row, at: usize) -> Result<u32, Fault>
-    ensures told { IfOk result (λ n. column row.now at ≡ Int (pos n)) }
+    ensures stated { IfOk result (λ n. column row.now at ≡ Int (pos n)) }
     ensures unread { IfErr result (IsUnread (λ n. Int (pos n)) IsShort (column row.now at)) }
 {
     match row.get::<u32>(at) {
@@ -38,7 +38,7 @@ pub fn number_at(row: &Row, at: usize) -> Result<u32, Fault>
 
 /// A count in a row. Any other value is a fault of the disk.
 pub fn count_at(row: &Row, at: usize) -> Result<u64, Fault>
-    ensures told { IfOk result (λ n. column row.now at ≡ Int (pos n)) }
+    ensures stated { IfOk result (λ n. column row.now at ≡ Int (pos n)) }
     ensures unread { IfErr result (IsUnread (λ n. Int (pos n)) AnyRow (column row.now at)) }
 {
     match row.get::<u64>(at) {
@@ -49,7 +49,7 @@ pub fn count_at(row: &Row, at: usize) -> Result<u64, Fault>
 
 /// A whole number in a row. Any other value is a fault of the disk.
 pub fn whole_at(row: &Row, at: usize) -> Result<i64, Fault>
-    ensures told { IfOk result (λ n. column row.now at ≡ Int n) }
+    ensures stated { IfOk result (λ n. column row.now at ≡ Int n) }
     ensures unread { IfErr result (IsUnread Int AnyRow (column row.now at)) }
 {
     match row.get::<i64>(at) {
@@ -60,7 +60,7 @@ pub fn whole_at(row: &Row, at: usize) -> Result<i64, Fault>
 
 /// An amount in a row, in cents. One out of its limits is a fault of the disk.
 pub fn cents_at(row: &Row, at: usize) -> Result<Cents, Fault>
-    ensures told { IfOk result (λ n. column row.now at ≡ Int n) }
+    ensures stated { IfOk result (λ n. column row.now at ≡ Int n) }
     ensures unread { IfErr result (IsUnread Int IsCents (column row.now at)) }
 {
     match Cents::new(whole_at(row, at)?) {
@@ -71,7 +71,7 @@ pub fn cents_at(row: &Row, at: usize) -> Result<Cents, Fault>
 
 /// A truth in a row, 1 or 0. Any other value is a fault of the disk.
 pub fn truth_at(row: &Row, at: usize) -> Result<bool, Fault>
-    ensures told { IfOk result (λ truth. column row.now at ≡ truth_cell truth) }
+    ensures stated { IfOk result (λ truth. column row.now at ≡ truth_cell truth) }
     ensures unread { IfErr result (IsUnread truth_cell AnyRow (column row.now at)) }
 {
     match number_at(row, at)? {
@@ -83,7 +83,7 @@ pub fn truth_at(row: &Row, at: usize) -> Result<bool, Fault>
 
 /// A procedure in a row, by its number. Any other value is a fault of the disk.
 pub fn procedure_at(row: &Row, at: usize) -> Result<Procedure, Fault>
-    ensures told { IfOk result (λ procedure. column row.now at ≡ procedure_cell procedure) }
+    ensures stated { IfOk result (λ procedure. column row.now at ≡ procedure_cell procedure) }
     ensures unread { IfErr result (IsUnread procedure_cell AnyRow (column row.now at)) }
 {
     match procedure_numbered(number_at(row, at)?) {
@@ -116,7 +116,7 @@ fn procedure_numbered(number: u32) -> Option<Procedure>
 
 /// A kind of items in a row, by its number. Any other value is a fault of the disk.
 pub fn kind_at(row: &Row, at: usize) -> Result<Kind, Fault>
-    ensures told { IfOk result (λ kind. column row.now at ≡ kind_cell kind) }
+    ensures stated { IfOk result (λ kind. column row.now at ≡ kind_cell kind) }
     ensures unread { IfErr result (IsUnread kind_cell AnyRow (column row.now at)) }
 {
     match kind_numbered(number_at(row, at)?) {

@@ -8,7 +8,7 @@ ghost use Rattle.sqlite.specs.Order.{Row as Cells};
 ghost use Rattle.sqlite.specs.State.{HasCleanDisk, Shown};
 ghost use Rattle.sqlite.specs.Values.{bound};
 ghost use Rattle.sql_schema.specs.Schema.{bank_schema};
-ghost use Rattle.sql_schema.specs.Steps.{LeavesNone, Stays, WasOpen};
+ghost use Rattle.sql_schema.specs.Steps.{Reads};
 
 use crate::calls::shown_rows;
 use crate::table_row::{TableRow, read_rows};
@@ -23,11 +23,8 @@ pub fn plain_rows<S: Alter>(
     params: &[ValueRef<'_>],
 ) -> Result<Vec<Row>, Fault>
     requires { IsPlain (understood bank_schema sql.now) }
-    ensures same_reference { tx.new.conn.ghost_name ≡ tx.old.conn.ghost_name }
+    ensures reads { Reads S.Store tx.old.conn tx.new.conn result }
     ensures rows { HasCleanDisk (state S.Store tx.new.conn.now) → IfOk result (λ rows. Shown sql.now (bound params.now) (state S.Store tx.old.conn.now) (state S.Store tx.new.conn.now) rows.items) }
-    ensures steps { Stays (state S.Store tx.old.conn.now) (state S.Store tx.new.conn.now) result }
-    ensures open { WasOpen (state S.Store tx.old.conn.now) (state S.Store tx.new.conn.now) result }
-    ensures survives { LeavesNone (state S.Store tx.old.conn.now) (state S.Store tx.new.conn.now) }
 {
     shown_rows(tx, sql, params)
 }
@@ -39,11 +36,8 @@ pub fn picked<S: Alter, T: TableRow + Drop>(
     params: &[ValueRef<'_>],
 ) -> Result<Option<T>, Fault>
     requires { IsPlain (understood bank_schema sql.now) }
-    ensures same_reference { tx.new.conn.ghost_name ≡ tx.old.conn.ghost_name }
+    ensures reads { Reads S.Store tx.old.conn tx.new.conn result }
     ensures found { HasCleanDisk (state S.Store tx.new.conn.now) → (there : Option T) → ((x : T) → there ≡ Some x → T.fits x) → ((rows : List Cells) → Shown sql.now (bound params.now) (state S.Store tx.old.conn.now) (state S.Store tx.new.conn.now) rows → slice_get rows 0 ≡ option_map T.shown there) → IfOk result (λ found. found ≡ there) }
-    ensures steps { Stays (state S.Store tx.old.conn.now) (state S.Store tx.new.conn.now) result }
-    ensures open { WasOpen (state S.Store tx.old.conn.now) (state S.Store tx.new.conn.now) result }
-    ensures survives { LeavesNone (state S.Store tx.old.conn.now) (state S.Store tx.new.conn.now) }
 {
     let rows = plain_rows(tx, sql, params)?;
     match rows.first() {
@@ -59,11 +53,8 @@ pub fn listed<S: Alter, T: TableRow + Drop>(
     params: &[ValueRef<'_>],
 ) -> Result<Vec<T>, Fault>
     requires { IsPlain (understood bank_schema sql.now) }
-    ensures same_reference { tx.new.conn.ghost_name ≡ tx.old.conn.ghost_name }
+    ensures reads { Reads S.Store tx.old.conn tx.new.conn result }
     ensures found { HasCleanDisk (state S.Store tx.new.conn.now) → (there : List T) → ((x : T) → Contains there x → T.fits x) → ((rows : List Cells) → Shown sql.now (bound params.now) (state S.Store tx.old.conn.now) (state S.Store tx.new.conn.now) rows → rows ≡ map T.shown there) → IfOk result (λ list. list.items ≡ there) }
-    ensures steps { Stays (state S.Store tx.old.conn.now) (state S.Store tx.new.conn.now) result }
-    ensures open { WasOpen (state S.Store tx.old.conn.now) (state S.Store tx.new.conn.now) result }
-    ensures survives { LeavesNone (state S.Store tx.old.conn.now) (state S.Store tx.new.conn.now) }
 {
     let rows = plain_rows(tx, sql, params)?;
     read_rows(*rows.allocator(), &rows)

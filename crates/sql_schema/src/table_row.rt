@@ -24,7 +24,7 @@ pub trait TableRow: Sized {
 
     ghost shows: { Cells → Cells };
 
-    ghost told: { Cells → Cells };
+    ghost stated: { Cells → Cells };
 
     ghost shown: { Self → Cells };
 
@@ -35,20 +35,20 @@ pub trait TableRow: Sized {
     /// The row that a row of an answer shows, whose columns stand as the queries for the table name them. Only memory,
     /// or a value that its column may not have, keeps it from being read.
     fn read(alloc: Global, row: &Row) -> Result<Self, Fault>
-        ensures same { IfOk result (λ x. told row.now ≡ cells x) }
+        ensures same { IfOk result (λ x. stated row.now ≡ cells x) }
         ensures there { IfOk result (λ x. (there : Self) → fits there → row.now ≡ shown there → x ≡ there) }
         ensures fit { IfOk result fits }
         ensures typed { IfOk result readable }
-        ensures unread { IfErr result (IsUnread cells readable (told row.now)) };
+        ensures unread { IfErr result (IsUnread cells readable (stated row.now)) };
 }
 
 /// The rows that all of these show, in their order.
 pub fn read_rows<T: TableRow + Drop>(alloc: Global, rows: &[Row]) -> Result<Vec<T>, Fault>
-    ensures same { IfOk result (λ list. map T.told rows.now ≡ map T.cells list.items) }
+    ensures same { IfOk result (λ list. map T.stated rows.now ≡ map T.cells list.items) }
     ensures there { IfOk result (λ list. (there : List T) → ((x : T) → Contains there x → T.fits x) → rows.now ≡ map T.shown there → list.items ≡ there) }
     ensures fit { IfOk result (λ list. (x : T) → Contains list.items x → T.fits x) }
     ensures typed { IfOk result (λ list. (x : T) → Contains list.items x → T.readable x) }
-    ensures unread { IfErr result (IsUnread (map T.cells) (λ (list : List T). (x : T) → Contains list x → T.readable x) (map T.told rows.now)) }
+    ensures unread { IfErr result (IsUnread (map T.cells) (λ (list : List T). (x : T) → Contains list x → T.readable x) (map T.stated rows.now)) }
 {
     let mut list = Vec::new(alloc);
     for row in rows {

@@ -9,7 +9,7 @@ ghost use Rattle.bank_books.specs.declared.rows.Release.{Release as TheRelease};
 ghost use Rattle.sql_schema.specs.Cells.{AnyRow, ReleaseFits, SlipFits, release_cells, slip_cells};
 ghost use Rattle.sql_schema.specs.Numbers.{entry_form_number, line_form_number};
 ghost use Rattle.sql_schema.specs.Readable.{IsUnread};
-ghost use Rattle.sql_schema.specs.Told.{columns_from};
+ghost use Rattle.sql_schema.specs.ReadBack.{columns_from};
 
 use crate::cells::{fault_of, number_at, whole_at};
 use bank_books::{EntryForm, LineForm};
@@ -20,7 +20,7 @@ use std::alloc::Global;
 
 /// A name in a row. A value that is no text is a fault of the disk.
 pub fn name_at(alloc: Global, row: &Row, at: usize) -> Result<Name, Fault>
-    ensures told { IfOk result (λ name. column row.now at ≡ Text name) }
+    ensures stated { IfOk result (λ name. column row.now at ≡ Text name) }
     ensures typed { IfOk result IsUtf8 }
     ensures unread { IfErr result (IsUnread Text IsUtf8 (column row.now at)) }
 {
@@ -32,7 +32,7 @@ pub fn name_at(alloc: Global, row: &Row, at: usize) -> Result<Name, Fault>
 
 /// The bytes in a row. A value that is no bytes is a fault of the disk.
 pub fn bytes_at(row: &Row, at: usize) -> Result<Vec<u8>, Fault>
-    ensures told { IfOk result (λ bytes. column row.now at ≡ Blob bytes.items) }
+    ensures stated { IfOk result (λ bytes. column row.now at ≡ Blob bytes.items) }
     ensures unread { IfErr result (IsUnread Blob AnyRow (column row.now at)) }
 {
     match row.get::<Vec<u8>>(at) {
@@ -43,7 +43,7 @@ pub fn bytes_at(row: &Row, at: usize) -> Result<Vec<u8>, Fault>
 
 /// A sum of cents in a row. Any other value is a fault of the disk.
 pub fn sum_at(row: &Row, at: usize) -> Result<i128, Fault>
-    ensures told { IfOk result (λ sum. column row.now at ≡ Int sum) }
+    ensures stated { IfOk result (λ sum. column row.now at ≡ Int sum) }
     ensures unread { IfErr result (IsUnread Int AnyRow (column row.now at)) }
 {
     Ok(i128::from(whole_at(row, at)?))
@@ -51,7 +51,7 @@ pub fn sum_at(row: &Row, at: usize) -> Result<i128, Fault>
 
 /// What an entry adds, in a row. A value out of its limits is a fault of the disk.
 pub fn delta_at(row: &Row, at: usize) -> Result<Delta, Fault>
-    ensures told { IfOk result (λ delta. column row.now at ≡ Int delta) }
+    ensures stated { IfOk result (λ delta. column row.now at ≡ Int delta) }
     ensures unread { IfErr result (IsUnread Int IsDelta (column row.now at)) }
 {
     match Delta::new(whole_at(row, at)?) {
@@ -62,7 +62,7 @@ pub fn delta_at(row: &Row, at: usize) -> Result<Delta, Fault>
 
 /// How an entry came about, by the number in a row. Any other value is a fault of the disk.
 pub fn entry_form_at(row: &Row, at: usize) -> Result<EntryForm, Fault>
-    ensures told { IfOk result (λ form. column row.now at ≡ Int (pos (entry_form_number form))) }
+    ensures stated { IfOk result (λ form. column row.now at ≡ Int (pos (entry_form_number form))) }
     ensures unread { IfErr result (IsUnread (λ form. Int (pos (entry_form_number form))) AnyRow (column row.now at)) }
 {
     match number_at(row, at)? {
@@ -75,7 +75,7 @@ pub fn entry_form_at(row: &Row, at: usize) -> Result<EntryForm, Fault>
 
 /// How a cash line came about, by the number in a row. Any other value is a fault of the disk.
 pub fn line_form_at(row: &Row, at: usize) -> Result<LineForm, Fault>
-    ensures told { IfOk result (λ form. column row.now at ≡ Int (pos (line_form_number form))) }
+    ensures stated { IfOk result (λ form. column row.now at ≡ Int (pos (line_form_number form))) }
     ensures unread { IfErr result (IsUnread (λ form. Int (pos (line_form_number form))) AnyRow (column row.now at)) }
 {
     match number_at(row, at)? {
@@ -90,7 +90,7 @@ pub fn line_form_at(row: &Row, at: usize) -> Result<LineForm, Fault>
 
 /// The numbers of the eight members of an operation, in a row from its seventh column on.
 pub fn members_of(row: &Row) -> Result<[i64; 8], Fault>
-    ensures told { IfOk result (λ members. columns_from 6 8 row.now ≡ map Int members) }
+    ensures stated { IfOk result (λ members. columns_from 6 8 row.now ≡ map Int members) }
     ensures there { IfOk result (λ members. (r : TheRelease) → ReleaseFits r → row.now ≡ release_cells r → members ≡ r.operation.members) }
     ensures eight { IfOk result (λ members. length members ≡ 8) }
     ensures unread { IfErr result (IsUnread (map Int) (λ (members : List ℤ). length members ≡ 8) (columns_from 6 8 row.now)) }
@@ -109,7 +109,7 @@ pub fn members_of(row: &Row) -> Result<[i64; 8], Fault>
 
 /// The numbers of the eight members of a slip's operation, in a row from its fourth column on.
 pub fn slip_members_of(row: &Row) -> Result<[i64; 8], Fault>
-    ensures told { IfOk result (λ members. columns_from 3 8 row.now ≡ map Int members) }
+    ensures stated { IfOk result (λ members. columns_from 3 8 row.now ≡ map Int members) }
     ensures there { IfOk result (λ members. (s : SlipRow) → SlipFits s → row.now ≡ slip_cells s → members ≡ s.operation.members) }
     ensures eight { IfOk result (λ members. length members ≡ 8) }
     ensures unread { IfErr result (IsUnread (map Int) (λ (members : List ℤ). length members ≡ 8) (columns_from 3 8 row.now)) }

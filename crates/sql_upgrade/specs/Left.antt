@@ -6,8 +6,8 @@ use Rattle.sql_schema.specs.Schema.{last_indexes_of, schema_of}
 use Rattle.sql_schema.specs.declared.edition.Edition.{Edition}
 use Rattle.sql_schema.specs.declared.edition.Edition.TheVariants.{First, Second, Third}
 
--- The first so many tables, and the first so many of the indexes of their keys. Of the two indexes for look-ups, where
--- the schema version has them, so many are gone.
+-- The first `tables` tables, and the first `indexes` of the indexes of their keys. Of the two indexes for look-ups, if
+-- the schema version has them, the first `gone` are gone.
 abbrev pub left : Edition → ℕ → ℕ → ℕ → Schema
 left e tables indexes gone = record { tables = take tables (schema_of e).tables; indexes = take indexes (schema_of e).indexes ++ drop gone (take 2 (last_indexes_of e)); views = [] }
 

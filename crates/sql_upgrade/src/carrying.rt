@@ -7,7 +7,7 @@ ghost use Rattle.bank_books.specs.Records.{kept_of};
 ghost use Rattle.book_kept.specs.Keepable.{IsKeepable};
 ghost use Rattle.sql_schema.specs.Held.{AreOfWorld, HoldsBank, HoldsWorld};
 ghost use Rattle.sql_schema.specs.Schema.{newest, schema_of};
-ghost use Rattle.sql_schema.specs.Steps.{LeavesNone};
+ghost use Rattle.sql_schema.specs.Steps.{Frame};
 ghost use Rattle.sql_upgrade.specs.Carried.{CommitsNone, IsOf};
 ghost use Rattle.sql_upgrade.specs.Left.{HasSchema};
 ghost use Rattle.sql_upgrade.specs.Proceeds.{Proceeds};
@@ -32,9 +32,8 @@ fn rewrite_bank<S: Alter>(
     requires older { edition ≢ newest }
     requires kept { kept.now ≡ kept_of world.now }
     requires keepable { IsKeepable world.now }
-    ensures same_reference { tx.new.conn.ghost_name ≡ tx.old.conn.ghost_name }
+    ensures frame { Frame S.Store tx.old.conn tx.new.conn }
     ensures proceeds { Proceeds (state S.Store tx.old.conn.now) (state S.Store tx.new.conn.now) (HasSchema (schema_of edition)) (λ db. HoldsWorld db world.now) result }
-    ensures survives { LeavesNone (state S.Store tx.old.conn.now) (state S.Store tx.new.conn.now) }
 {
     drop_tables(tx, edition)?;
     write_bank(alloc, tx, world, kept)

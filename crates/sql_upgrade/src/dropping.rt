@@ -4,7 +4,7 @@
 ghost use Rattle.std.specs.Prelude.{◌≡◌};
 ghost use Rattle.sqlite.specs.Held.{state};
 ghost use Rattle.sql_schema.specs.declared.edition.Edition.{Edition as TheEdition};
-ghost use Rattle.sql_schema.specs.Steps.{LeavesNone};
+ghost use Rattle.sql_schema.specs.Steps.{Frame};
 ghost use Rattle.sql_upgrade.specs.Left.{HasSchema, left, triples_text};
 ghost use Rattle.sql_upgrade.specs.Proceeds.{Proceeds};
 
@@ -15,9 +15,8 @@ use sqlite::{Alter, Transaction};
 
 /// Takes away the tables of lines, proofs and releases.
 fn drop_history<S: Alter>(tx: &mut Transaction<'_, S>) -> Result<(), Fault>
-    ensures same_reference { tx.new.conn.ghost_name ≡ tx.old.conn.ghost_name }
+    ensures frame { Frame S.Store tx.old.conn tx.new.conn }
     ensures proceeds { (e : TheEdition) → Proceeds (state S.Store tx.old.conn.now) (state S.Store tx.new.conn.now) (HasSchema (left e 14 9 0)) (HasSchema (left e 11 6 0)) result }
-    ensures survives { LeavesNone (state S.Store tx.old.conn.now) (state S.Store tx.new.conn.now) }
 {
     define(tx, "DROP TABLE releases")?;
     define(tx, "DROP TABLE proofs")?;
@@ -26,9 +25,8 @@ fn drop_history<S: Alter>(tx: &mut Transaction<'_, S>) -> Result<(), Fault>
 
 /// Takes away the tables of branches, tellers, accounts and entries.
 fn drop_books<S: Alter>(tx: &mut Transaction<'_, S>) -> Result<(), Fault>
-    ensures same_reference { tx.new.conn.ghost_name ≡ tx.old.conn.ghost_name }
+    ensures frame { Frame S.Store tx.old.conn tx.new.conn }
     ensures proceeds { (e : TheEdition) → Proceeds (state S.Store tx.old.conn.now) (state S.Store tx.new.conn.now) (HasSchema (left e 11 6 0)) (HasSchema (left e 7 4 2)) result }
-    ensures survives { LeavesNone (state S.Store tx.old.conn.now) (state S.Store tx.new.conn.now) }
 {
     define(tx, "DROP TABLE entries")?;
     define(tx, "DROP TABLE accounts")?;
@@ -50,9 +48,8 @@ fn triples_text(edition: Edition) -> &'static str
 /// Takes away the tables of relations, triples and certifiers: triples go before the relations that they are
 /// of.
 fn drop_rights<S: Alter>(tx: &mut Transaction<'_, S>, edition: Edition) -> Result<(), Fault>
-    ensures same_reference { tx.new.conn.ghost_name ≡ tx.old.conn.ghost_name }
+    ensures frame { Frame S.Store tx.old.conn tx.new.conn }
     ensures proceeds { Proceeds (state S.Store tx.old.conn.now) (state S.Store tx.new.conn.now) (HasSchema (left edition 7 4 2)) (HasSchema (left edition 4 1 2)) result }
-    ensures survives { LeavesNone (state S.Store tx.old.conn.now) (state S.Store tx.new.conn.now) }
 {
     define(tx, "DROP TABLE certifiers")?;
     define(tx, triples_text(edition))?;
@@ -61,9 +58,8 @@ fn drop_rights<S: Alter>(tx: &mut Transaction<'_, S>, edition: Edition) -> Resul
 
 /// Takes away the tables of the bank, of users, and of sets with their members.
 fn drop_bank_and_sets<S: Alter>(tx: &mut Transaction<'_, S>) -> Result<(), Fault>
-    ensures same_reference { tx.new.conn.ghost_name ≡ tx.old.conn.ghost_name }
+    ensures frame { Frame S.Store tx.old.conn tx.new.conn }
     ensures proceeds { (e : TheEdition) → Proceeds (state S.Store tx.old.conn.now) (state S.Store tx.new.conn.now) (HasSchema (left e 4 1 2)) (HasSchema (left e 0 0 2)) result }
-    ensures survives { LeavesNone (state S.Store tx.old.conn.now) (state S.Store tx.new.conn.now) }
 {
     define(tx, "DROP TABLE members")?;
     define(tx, "DROP TABLE sets")?;
@@ -76,9 +72,8 @@ pub(crate) fn drop_tables<S: Alter>(
     tx: &mut Transaction<'_, S>,
     edition: Edition,
 ) -> Result<(), Fault>
-    ensures same_reference { tx.new.conn.ghost_name ≡ tx.old.conn.ghost_name }
+    ensures frame { Frame S.Store tx.old.conn tx.new.conn }
     ensures proceeds { Proceeds (state S.Store tx.old.conn.now) (state S.Store tx.new.conn.now) (HasSchema (left edition 14 9 0)) (HasSchema (left edition 0 0 2)) result }
-    ensures survives { LeavesNone (state S.Store tx.old.conn.now) (state S.Store tx.new.conn.now) }
 {
     drop_history(tx)?;
     drop_books(tx)?;

@@ -11,6 +11,7 @@ ghost use Rattle.sql_adopt.specs.Adopted.{IsLeft, OnAnyFile};
 ghost use Rattle.sql_adopt.specs.Older.{IsNewestFile, OnOlderFile};
 ghost use Rattle.sql_adopt.specs.Refused.{HoldsSoundBankIn, IsNamedBy, IsOfOther, IsOfStore, IsRefusedIn};
 ghost use Rattle.sql_upgrade.specs.Carried.{Carries, IsCarriedOver};
+ghost use Rattle.store_sql.specs.Bank.{KnowsNothing};
 
 use crate::carrying::carry_bank;
 use sql_adopt::{AdoptFault, read_older_bank};
@@ -61,6 +62,7 @@ pub fn upgrade<S: Alter>(
     ensures carries { IfOk result (λ store. OnOlderFile (state S.Store conn) (state S.Store store.conn) (λ e. Carries e (state S.Store conn) (state S.Store store.conn))) }
     ensures open { IfOk result (λ store. HasCleanDisk (state S.Store store.conn) → IsTrue (state S.Store store.conn).is_open) }
     ensures works { IfOk result (λ store. (store.is_stopped ≡ false) × (store.faults ≡ 0) × (store.failures ≡ 0)) }
+    ensures known { IfOk result (λ store. KnowsNothing store.known) }
     ensures refused { IfErr result (λ x. OnOlderFile (state S.Store conn) (state S.Store x.1) (λ e. IsRefusedIn e (state S.Store conn).now.trees x.0)) }
     ensures sound { IfErr result (λ x. OnOlderFile (state S.Store conn) (state S.Store x.1) (λ e. HoldsSoundBankIn e (state S.Store conn).now → IsOfStore x.0)) }
     ensures named { IfErr result (λ x. OnOlderFile (state S.Store conn) (state S.Store x.1) (λ e. (s : Sheets) → HoldsSheetsIn e (state S.Store conn).now.trees s → AreReadable s → IsNamedBy s x.0)) }

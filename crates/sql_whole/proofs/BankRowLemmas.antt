@@ -6,19 +6,19 @@ use Rattle.sqlite.specs.State.{IsUnchanged, KeepsCommit, State}
 use Rattle.sqlite.specs.Tree.{Trees}
 use Rattle.sqlite.proofs.Callers.{one_permutation}
 use Rattle.sql_schema.specs.HeldRows.{all_of_it}
-use Rattle.sql_whole.specs.BankRow.{IsBankTable, IsToldBy, bank_row_cells}
-use Rattle.sql_schema.specs.Told.{told_by_key}
+use Rattle.sql_whole.specs.BankRow.{IsBankTable, IsReadFrom, bank_row_cells}
+use Rattle.sql_schema.specs.ReadBack.{stored_by_rowid}
 use Rattle.sql_whole.specs.declared.bank.BankRow.{BankRow}
 
 themselves : (rows : List Row) → map all_of_it rows ≡ rows
 themselves [] = refl
 themselves (row ∷ rows) = ap (λ rest. row ∷ rest) (themselves rows)
 
-is_table : (db : Trees) (rows : List Row) (found : Option BankRow) → IsToldBy rows found → IsPermutation (map (told_by_key 2) rows) (db 0) → IsBankTable db found
-is_table db rows (Some b) told same = one_permutation (bank_row_cells b) (db 0) (subst (λ l. IsPermutation l (db 0)) told same)
-is_table db rows None told same = λ b is. told b (one_permutation (bank_row_cells b) (map (told_by_key 2) rows) (subst (λ l. IsPermutation l (map (told_by_key 2) rows)) is (IsPermutation-sym _ _ same)))
+is_table : (db : Trees) (rows : List Row) (found : Option BankRow) → IsReadFrom rows found → IsPermutation (map (stored_by_rowid 2) rows) (db 0) → IsBankTable db found
+is_table db rows (Some b) stated same = one_permutation (bank_row_cells b) (db 0) (subst (λ l. IsPermutation l (db 0)) stated same)
+is_table db rows None stated same = λ b is. stated b (one_permutation (bank_row_cells b) (map (stored_by_rowid 2) rows) (subst (λ l. IsPermutation l (map (stored_by_rowid 2) rows)) is (IsPermutation-sym _ _ same)))
 
-pub tells_table : {E : Type 0} (old new : State) (rows : List Row) (r : Result (Option BankRow) E) → IfOk r (IsToldBy rows) → IsPermutation (map (told_by_key 2) rows) (map all_of_it (old.now.trees 0))
+pub tells_table : {E : Type 0} (old new : State) (rows : List Row) (r : Result (Option BankRow) E) → IfOk r (IsReadFrom rows) → IsPermutation (map (stored_by_rowid 2) rows) (map all_of_it (old.now.trees 0))
     → IsUnchanged old new × KeepsCommit old new → IfOk r (IsBankTable old.now.trees) × OnOk r (IsUnchanged old new) × KeepsCommit old new
-tells_table old new rows (Ok found) told same kept = (is_table old.now.trees rows found told (subst (IsPermutation (map (told_by_key 2) rows)) (themselves (old.now.trees 0)) same), kept.0, kept.1)
-tells_table old new rows (Err e) told same kept = (tt, tt, kept.1)
+tells_table old new rows (Ok found) stated same kept = (is_table old.now.trees rows found stated (subst (IsPermutation (map (stored_by_rowid 2) rows)) (themselves (old.now.trees 0)) same), kept.0, kept.1)
+tells_table old new rows (Err e) stated same kept = (tt, tt, kept.1)

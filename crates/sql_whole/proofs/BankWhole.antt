@@ -13,7 +13,7 @@ use Rattle.sql_schema.specs.Schema.{bank_table}
 use Rattle.sql_schema.proofs.ReadLemmas.{rises_by_one, rising_key}
 use Rattle.sql_schema.proofs.NamedTables.{bank_there}
 use Rattle.sql_whole.specs.Texts.{all_bank_text}
-use Rattle.sql_schema.specs.Told.{told_by_key}
+use Rattle.sql_schema.specs.ReadBack.{stored_by_rowid}
 use Rattle.sql_whole.specs.Whole.{TellsWhole}
 use Rattle.sql_whole.proofs.WholeLemmas.{IsScanOf, by_rowid_whole}
 
@@ -35,7 +35,7 @@ bank_is Third = (refl, refl, (refl, refl), (refl, refl), refl)
 abbrev pub bank_no : ℕ → ℕ
 bank_no version = 1
 
-pub tells_bank : (e : Edition) → TellsWhole e all_of_it (told_by_key 2) bank_cells bank_no AnyRow in_bank all_bank_text
+pub tells_bank : (e : Edition) → TellsWhole e all_of_it (stored_by_rowid 2) bank_cells bank_no AnyRow in_bank all_bank_text
 tells_bank e =
     by_rowid_whole e bank_cells bank_no AnyRow in_bank tt bank_table all_bank_text bank_columns bank_order _ 2 (bank_is e)
     (bank_there e) refl (λ db. refl) refl refl (inr refl) (λ r. refl) (λ version. refl) (λ x y _ _ less. rises_by_one 1 1 less)

@@ -11,7 +11,7 @@ use Rattle.sql_schema.specs.declared.edition.Edition.{Edition}
 use Rattle.sql_schema.specs.declared.edition.Edition.TheVariants.{First, Second, Third}
 use Rattle.sql_schema.specs.HeldRows.{all_but_rowid, all_of_it}
 use Rattle.sql_schema.specs.Schema.{accounts_table, branches_table, entries_table, tellers_table}
-use Rattle.sql_schema.specs.Told.{told_by_columns, told_by_key}
+use Rattle.sql_schema.specs.ReadBack.{stored_by_columns, stored_by_rowid}
 use Rattle.sql_schema.proofs.ReadLemmas.{rises_by_one, rises_by_two, rising_key}
 use Rattle.sql_schema.proofs.NamedTables.{accounts_there, branches_there, entries_there, tellers_there}
 use Rattle.sql_whole.specs.Texts.{all_branches_text, all_tellers_text, all_accounts_text, all_entries_text}
@@ -32,7 +32,7 @@ branches_is First = (refl, refl, (refl, refl), (refl, refl), refl)
 branches_is Second = (refl, refl, (refl, refl), (refl, refl), refl)
 branches_is Third = (refl, refl, (refl, refl), (refl, refl), refl)
 
-pub tells_branches : (e : Edition) → TellsWhole e all_of_it (told_by_key 12) branch_cells branch_no AnyRow in_branches all_branches_text
+pub tells_branches : (e : Edition) → TellsWhole e all_of_it (stored_by_rowid 12) branch_cells branch_no AnyRow in_branches all_branches_text
 tells_branches e =
     by_rowid_whole e branch_cells branch_no AnyRow in_branches tt branches_table all_branches_text branches_columns branches_order _ 12 (branches_is e)
     (branches_there e) refl (λ db. refl) refl refl (inr refl) (λ r. refl) (λ x. refl)
@@ -52,7 +52,7 @@ tellers_is First = (refl, refl, (refl, refl), (refl, refl), refl)
 tellers_is Second = (refl, refl, (refl, refl), (refl, refl), refl)
 tellers_is Third = (refl, refl, (refl, refl), (refl, refl), refl)
 
-pub tells_tellers : (e : Edition) → TellsWhole e all_of_it (told_by_key 5) teller_cells teller_no AnyRow in_tellers all_tellers_text
+pub tells_tellers : (e : Edition) → TellsWhole e all_of_it (stored_by_rowid 5) teller_cells teller_no AnyRow in_tellers all_tellers_text
 tells_tellers e =
     by_rowid_whole e teller_cells teller_no AnyRow in_tellers tt tellers_table all_tellers_text tellers_columns tellers_order _ 5 (tellers_is e)
     (tellers_there e) refl (λ db. refl) refl refl (inr refl) (λ r. refl) (λ x. refl)
@@ -72,7 +72,7 @@ accounts_is First = (refl, refl, (refl, refl), (refl, refl), refl)
 accounts_is Second = (refl, refl, (refl, refl), (refl, refl), refl)
 accounts_is Third = (refl, refl, (refl, refl), (refl, refl), refl)
 
-pub tells_accounts : (e : Edition) → TellsWhole e all_of_it (told_by_key 5) account_cells account_no AnyRow in_accounts all_accounts_text
+pub tells_accounts : (e : Edition) → TellsWhole e all_of_it (stored_by_rowid 5) account_cells account_no AnyRow in_accounts all_accounts_text
 tells_accounts e =
     by_rowid_whole e account_cells account_no AnyRow in_accounts tt accounts_table all_accounts_text accounts_columns accounts_order _ 5 (accounts_is e)
     (accounts_there e) refl (λ db. refl) refl refl (inr refl) (λ r. refl) (λ x. refl)
@@ -96,7 +96,7 @@ entries_alike : ReadsNoRowid (whole_scan 14 entries_columns entries_order)
 entries_alike [] = refl
 entries_alike (id ∷ r) = refl
 
-pub tells_entries : (e : Edition) → TellsWhole e all_but_rowid (told_by_columns 13) entry_cells entry_no EntryFits in_entries all_entries_text
+pub tells_entries : (e : Edition) → TellsWhole e all_but_rowid (stored_by_columns 13) entry_cells entry_no EntryFits in_entries all_entries_text
 tells_entries e =
     by_columns_whole e entry_cells entry_no EntryFits in_entries tt entries_table all_entries_text entries_columns entries_order _ 13 (entries_is e)
     (entries_there e) refl (λ db. refl) refl refl (λ r. refl) entries_alike (λ x. refl)

@@ -12,7 +12,7 @@ use Rattle.sql_schema.specs.declared.edition.Edition.{Edition}
 use Rattle.sql_schema.specs.declared.edition.Edition.TheVariants.{First, Second, Third}
 use Rattle.sql_schema.specs.HeldRows.{all_but_rowid, all_of_it}
 use Rattle.sql_schema.specs.Schema.{lines_table, proofs_table, releases_table, slip_counts_table, slips_table}
-use Rattle.sql_schema.specs.Told.{told_by_columns, told_by_key}
+use Rattle.sql_schema.specs.ReadBack.{stored_by_columns, stored_by_rowid}
 use Rattle.sql_schema.proofs.ReadLemmas.{rises_by_one, rises_by_two, rising_key}
 use Rattle.sql_schema.proofs.NamedTables.{lines_there, proofs_there, releases_there, slip_counts_there, slips_there}
 use Rattle.sql_whole.specs.Texts.{all_lines_text, all_proofs_text, all_releases_text, all_slip_counts_text, all_slips_text}
@@ -37,7 +37,7 @@ lines_alike : ReadsNoRowid (whole_scan 17 lines_columns lines_order)
 lines_alike [] = refl
 lines_alike (id ∷ r) = refl
 
-pub tells_lines : (e : Edition) → TellsWhole e all_but_rowid (told_by_columns 8) line_cells line_key LineFits in_lines all_lines_text
+pub tells_lines : (e : Edition) → TellsWhole e all_but_rowid (stored_by_columns 8) line_cells line_key LineFits in_lines all_lines_text
 tells_lines e =
     by_columns_whole e line_cells line_key LineFits in_lines tt lines_table all_lines_text lines_columns lines_order _ 8 (lines_is e)
     (lines_there e) refl (λ db. refl) refl refl (λ r. refl) lines_alike (λ x. refl)
@@ -61,7 +61,7 @@ proofs_alike : ReadsNoRowid (whole_scan 19 proofs_columns proofs_order)
 proofs_alike [] = refl
 proofs_alike (id ∷ r) = refl
 
-pub tells_proofs : (e : Edition) → TellsWhole e all_but_rowid (told_by_columns 5) proof_cells proof_key ProofFits in_proofs all_proofs_text
+pub tells_proofs : (e : Edition) → TellsWhole e all_but_rowid (stored_by_columns 5) proof_cells proof_key ProofFits in_proofs all_proofs_text
 tells_proofs e =
     by_columns_whole e proof_cells proof_key ProofFits in_proofs tt proofs_table all_proofs_text proofs_columns proofs_order _ 5 (proofs_is e)
     (proofs_there e) refl (λ db. refl) refl refl (λ r. refl) proofs_alike (λ x. refl)
@@ -85,7 +85,7 @@ releases_alike : ReadsNoRowid (whole_scan 21 releases_columns releases_order)
 releases_alike [] = refl
 releases_alike (id ∷ r) = refl
 
-pub tells_releases : (e : Edition) → TellsWhole e all_but_rowid (told_by_columns 15) release_cells release_key ReleaseFits in_releases all_releases_text
+pub tells_releases : (e : Edition) → TellsWhole e all_but_rowid (stored_by_columns 15) release_cells release_key ReleaseFits in_releases all_releases_text
 tells_releases e =
     by_columns_whole e release_cells release_key ReleaseFits in_releases tt releases_table all_releases_text releases_columns releases_order _ 15 (releases_is e)
     (releases_there e) refl (λ db. refl) refl refl (λ r. refl) releases_alike (λ x. refl)
@@ -107,7 +107,7 @@ slips_alike : ReadsNoRowid (whole_scan 25 slips_columns slips_order)
 slips_alike [] = refl
 slips_alike (id ∷ r) = refl
 
-pub tells_slips : TellsWhole Third all_but_rowid (told_by_columns 12) slip_cells slip_key SlipFits in_slips all_slips_text
+pub tells_slips : TellsWhole Third all_but_rowid (stored_by_columns 12) slip_cells slip_key SlipFits in_slips all_slips_text
 tells_slips =
     by_columns_whole Third slip_cells slip_key SlipFits in_slips tt slips_table all_slips_text slips_columns slips_order _ 12 slips_is
     slips_there refl (λ db. refl) refl refl (λ r. refl) slips_alike (λ x. refl)
@@ -125,7 +125,7 @@ counts_is : IsScanOf Third all_slip_counts_text 27 counts_columns counts_order (
 unfolding understood everything
 counts_is = (refl, refl, (refl, refl), (refl, refl), refl)
 
-pub tells_slip_counts : TellsWhole Third all_of_it (told_by_key 1) slip_count_cells slip_no AnyRow in_slip_counts all_slip_counts_text
+pub tells_slip_counts : TellsWhole Third all_of_it (stored_by_rowid 1) slip_count_cells slip_no AnyRow in_slip_counts all_slip_counts_text
 tells_slip_counts =
     by_rowid_whole Third slip_count_cells slip_no AnyRow in_slip_counts tt slip_counts_table all_slip_counts_text counts_columns counts_order _ 1 counts_is
     slip_counts_there refl (λ db. refl) refl refl (inr refl) (λ r. refl) (λ x. refl)

@@ -14,7 +14,7 @@ use Rattle.sql_schema.specs.declared.edition.Edition.{Edition}
 use Rattle.sql_schema.specs.declared.edition.Edition.TheVariants.{First, Second, Third}
 use Rattle.sql_schema.specs.HeldRows.{all_but_rowid, all_of_it}
 use Rattle.sql_schema.specs.Schema.{certifiers_table, grants_table, members_table, relations_table, sets_table, triples_table, users_table}
-use Rattle.sql_schema.specs.Told.{told_by_columns, told_by_key}
+use Rattle.sql_schema.specs.ReadBack.{stored_by_columns, stored_by_rowid}
 use Rattle.bank_terms.proofs.Procedures.{small_number}
 use Rattle.sql_schema.proofs.ReadLemmas.{rises_by_one, rises_by_three, rises_by_two, rising_key}
 use Rattle.sql_schema.proofs.NamedTables.{certifiers_there, members_there, relations_there, sets_there, triples_there, users_there}
@@ -36,7 +36,7 @@ users_is First = (refl, refl, (refl, refl), (refl, refl), refl)
 users_is Second = (refl, refl, (refl, refl), (refl, refl), refl)
 users_is Third = (refl, refl, (refl, refl), (refl, refl), refl)
 
-pub tells_users : (e : Edition) → TellsWhole e all_of_it (told_by_key 6) user_cells user_no AnyRow in_users all_users_text
+pub tells_users : (e : Edition) → TellsWhole e all_of_it (stored_by_rowid 6) user_cells user_no AnyRow in_users all_users_text
 tells_users e =
     by_rowid_whole e user_cells user_no AnyRow in_users tt users_table all_users_text users_columns users_order _ 6 (users_is e)
     (users_there e) refl (λ db. refl) refl refl (inr refl) (λ r. refl) (λ x. refl)
@@ -56,7 +56,7 @@ sets_is First = (refl, refl, (refl, refl), (refl, refl), refl)
 sets_is Second = (refl, refl, (refl, refl), (refl, refl), refl)
 sets_is Third = (refl, refl, (refl, refl), (refl, refl), refl)
 
-pub tells_sets : (e : Edition) → TellsWhole e all_of_it (told_by_key 0) set_cells set_no AnyRow in_sets all_sets_text
+pub tells_sets : (e : Edition) → TellsWhole e all_of_it (stored_by_rowid 0) set_cells set_no AnyRow in_sets all_sets_text
 tells_sets e =
     by_rowid_whole e set_cells set_no AnyRow in_sets tt sets_table all_sets_text sets_columns sets_order _ 0 (sets_is e)
     (sets_there e) refl (λ db. refl) refl refl (inl refl) (λ r. refl) (λ x. refl)
@@ -80,7 +80,7 @@ members_alike : ReadsNoRowid (whole_scan 3 members_columns members_order)
 members_alike [] = refl
 members_alike (id ∷ r) = refl
 
-pub tells_members : (e : Edition) → TellsWhole e all_but_rowid (told_by_columns 5) member_cells member_no MemberFits in_members all_members_text
+pub tells_members : (e : Edition) → TellsWhole e all_but_rowid (stored_by_columns 5) member_cells member_no MemberFits in_members all_members_text
 tells_members e =
     by_columns_whole e member_cells member_no MemberFits in_members tt members_table all_members_text members_columns members_order _ 5 (members_is e)
     (members_there e) refl (λ db. refl) refl refl (λ r. refl) members_alike (λ x. refl)
@@ -104,7 +104,7 @@ relations_alike : ReadsNoRowid (whole_scan 5 relations_columns relations_order)
 relations_alike [] = refl
 relations_alike (id ∷ r) = refl
 
-pub tells_relations : (e : Edition) → TellsWhole e all_but_rowid (told_by_columns 3) relation_cells relation_key RelationFits in_relations all_relations_text
+pub tells_relations : (e : Edition) → TellsWhole e all_but_rowid (stored_by_columns 3) relation_cells relation_key RelationFits in_relations all_relations_text
 tells_relations e =
     by_columns_whole e relation_cells relation_key RelationFits in_relations tt relations_table all_relations_text relations_columns relations_order _ 3 (relations_is e)
     (relations_there e) refl (λ db. refl) refl refl (λ r. refl) relations_alike (λ x. refl)
@@ -128,7 +128,7 @@ first_triples_alike : ReadsNoRowid (whole_scan 7 first_triples_columns triples_o
 first_triples_alike [] = refl
 first_triples_alike (id ∷ r) = refl
 
-pub tells_first_triples : TellsWhole First all_but_rowid (told_by_columns 4) (triple_cells_in First) triple_key (TripleFitsIn First) in_triples first_triples_text
+pub tells_first_triples : TellsWhole First all_but_rowid (stored_by_columns 4) (triple_cells_in First) triple_key (TripleFitsIn First) in_triples first_triples_text
 tells_first_triples =
     by_columns_whole First (triple_cells_in First) triple_key (TripleFitsIn First) in_triples tt triples_table first_triples_text first_triples_columns triples_order _ 4 first_triples_is
     (triples_there First) refl (λ db. refl) refl refl (λ r. refl) first_triples_alike (λ x. refl)
@@ -150,7 +150,7 @@ second_triples_is : IsScanOf Second grants_text 7 grants_columns triples_order g
 unfolding understood everything
 second_triples_is = (refl, refl, (refl, refl), (refl, refl), refl)
 
-pub tells_second_triples : TellsWhole Second all_but_rowid (told_by_columns 6) triple_cells triple_key TripleFits in_triples grants_text
+pub tells_second_triples : TellsWhole Second all_but_rowid (stored_by_columns 6) triple_cells triple_key TripleFits in_triples grants_text
 tells_second_triples =
     by_columns_whole Second triple_cells triple_key TripleFits in_triples tt grants_table grants_text grants_columns triples_order _ 6 second_triples_is
     (triples_there Second) refl (λ db. refl) refl refl (λ r. refl) grants_alike (λ x. refl)
@@ -160,7 +160,7 @@ third_triples_is : IsScanOf Third grants_text 7 grants_columns triples_order gra
 unfolding understood everything
 third_triples_is = (refl, refl, (refl, refl), (refl, refl), refl)
 
-pub tells_third_triples : TellsWhole Third all_but_rowid (told_by_columns 6) triple_cells triple_key TripleFits in_triples grants_text
+pub tells_third_triples : TellsWhole Third all_but_rowid (stored_by_columns 6) triple_cells triple_key TripleFits in_triples grants_text
 tells_third_triples =
     by_columns_whole Third triple_cells triple_key TripleFits in_triples tt grants_table grants_text grants_columns triples_order _ 6 third_triples_is
     (triples_there Third) refl (λ db. refl) refl refl (λ r. refl) grants_alike (λ x. refl)
@@ -184,7 +184,7 @@ certifiers_alike : ReadsNoRowid (whole_scan 9 certifiers_columns certifiers_orde
 certifiers_alike [] = refl
 certifiers_alike (id ∷ r) = refl
 
-pub tells_certifiers : (e : Edition) → TellsWhole e all_but_rowid (told_by_columns 2) certifier_cells certifier_key AnyRow in_certifiers all_certifiers_text
+pub tells_certifiers : (e : Edition) → TellsWhole e all_but_rowid (stored_by_columns 2) certifier_cells certifier_key AnyRow in_certifiers all_certifiers_text
 tells_certifiers e =
     by_columns_whole e certifier_cells certifier_key AnyRow in_certifiers tt certifiers_table all_certifiers_text certifiers_columns certifiers_order _ 2 (certifiers_is e)
     (certifiers_there e) refl (λ db. refl) refl refl (λ r. refl) certifiers_alike (λ x. refl)

@@ -1,5 +1,5 @@
 -- Reads of whole tables, one after another.
-use Rattle.std.proofs.Common.{◌≡◌, ◌≢◌, Ok, Err, IfErr, IsErr, IsErrAnd, IsTrue, Result, refl, sym, ap, ◌∙◌, subst}
+use Rattle.std.proofs.Common.{◌≡◌, ◌≢◌, Ok, Err, IsErr, IsTrue, Result, refl, sym, ap, ◌∙◌, subst}
 use Rattle.money.specs.declared.fault.Fault.{Fault}
 use Rattle.money.specs.declared.fault.Fault.TheVariants.{Disk, Memory, Size, Stopped}
 use Rattle.sqlite.specs.Effect.{Database, IsDatabase}

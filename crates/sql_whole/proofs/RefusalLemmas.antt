@@ -1,5 +1,5 @@
 -- Why a query for a whole table is refused on a connection to the tables of a bank: for the database, or for a limit on steps.
-use Rattle.std.proofs.Common.{◌≡◌, ◌⊎◌, ℕ, Option, List, [], length, true, append-nil, inl, inr, Ok, Err, Result, ap, sym, subst, arith, ◌∙◌}
+use Rattle.std.proofs.Common.{◌≡◌, ℕ, Option, List, [], length, true, append-nil, inl, inr, Ok, Err, Result, ap, sym, subst, arith, ◌∙◌}
 use Rattle.sqlite.specs.Clock.{timed}
 use Rattle.sqlite.specs.Command.TheVariants.{Select}
 use Rattle.sqlite.specs.Effect.{Database, RefusesQuery}

@@ -7,7 +7,6 @@ use Rattle.money.specs.declared.fault.Fault.TheVariants.{Memory}
 use Rattle.sqlite_resolve.specs.declared.compiled.Compiled.{Compiled}
 use Rattle.sqlite_trees.specs.declared.store.Store.{Ghosts}
 use Rattle.sqlite.specs.Clock.{timed}
-use Rattle.sqlite.specs.Command.TheVariants.{Select}
 use Rattle.sqlite.specs.Effect.{Database}
 use Rattle.sqlite.specs.Given.{HasBegun, HasGiven}
 use Rattle.sqlite.specs.Held.{Held, state}
@@ -40,10 +39,10 @@ pub leaves_none : (e : Edition) (text : List ℕ) (old new : State) → IsAnswer
 leaves_none e text old new asks = survives_weaker old new _ _ (λ _ db. commits_none e text old db asks)
 
 -- The answer has given rows, and these were read of them.
-pub record Taken {S X : Type 0} (g : Ghosts S) (text : List ℕ) (conn : Held S) (told : Row → Row) (cells : X → Row) (Fits : X → Type 0) (rows : List X) : Type 0 where
+pub record Taken {S X : Type 0} (g : Ghosts S) (text : List ℕ) (conn : Held S) (stated : Row → Row) (cells : X → Row) (Fits : X → Type 0) (rows : List X) : Type 0 where
   pub given : List Row
   pub answer : HasGiven g text [] conn given
-  pub same : map told given ≡ map cells rows
+  pub same : map stated given ≡ map cells rows
   pub fit : Each Fits rows
 
 map_last : {X Y : Type 0} (f : X → Y) (xs : List X) (x : X) → map f (xs ++ x ∷ []) ≡ map f xs ++ f x ∷ []
@@ -66,8 +65,8 @@ pub none_there : {X : Type 0} (P : X → Type 0) → Each P []
 none_there P x (k, within, is) = absurd (omega arith)
 
 -- at the start
-pub took_none : {S X : Type 0} (g : Ghosts S) (text : List ℕ) (conn : Held S) (told : Row → Row) (cells : X → Row) (Fits : X → Type 0) (rows : List X) → rows ≡ [] → HasGiven g text [] conn [] → Taken g text conn told cells Fits rows
-took_none g text conn told cells Fits rows none on = record { given = []; answer = on; same = ap (λ xs. map cells xs) (sym none); fit = subst (λ xs. Each Fits xs) (sym none) (none_there Fits) }
+pub took_none : {S X : Type 0} (g : Ghosts S) (text : List ℕ) (conn : Held S) (stated : Row → Row) (cells : X → Row) (Fits : X → Type 0) (rows : List X) → rows ≡ [] → HasGiven g text [] conn [] → Taken g text conn stated cells Fits rows
+took_none g text conn stated cells Fits rows none on = record { given = []; answer = on; same = ap (λ xs. map cells xs) (sym none); fit = subst (λ xs. Each Fits xs) (sym none) (none_there Fits) }
 
 -- a query that has begun found the connection open
 pub begun_open : {S : Type 0} (g : Ghosts S) (text : List ℕ) (old new : Held S) → HasBegun g text [] old new → IsTrue (state g old).is_open
@@ -79,22 +78,22 @@ pub failed_kept : (e : Edition) (text : List ℕ) (asks : IsAnswered e text) (ol
 failed_kept e text asks old new x has fails = elim (fails_kept text [] old new x (plain_there e text old asks.plain has) fails) [ inl same ↦ kept_same old new same | inr back ↦ kept_back old new back ]
 
 -- one row more
-pub took_more : {S X : Type 0} (g : Ghosts S) (text : List ℕ) (was now : Held S) (told : Row → Row) (cells : X → Row) (Fits : X → Type 0) (rows : List X)
-    → (t : Taken g text was told cells Fits rows) (row : Row) → HasGiven g text [] now (t.given ++ row ∷ []) → (x : X) → told row ≡ cells x → Fits x → Taken g text now told cells Fits (rows ++ x ∷ [])
-took_more g text was now told cells Fits rows t row on x same fit = record {
+pub took_more : {S X : Type 0} (g : Ghosts S) (text : List ℕ) (was now : Held S) (stated : Row → Row) (cells : X → Row) (Fits : X → Type 0) (rows : List X)
+    → (t : Taken g text was stated cells Fits rows) (row : Row) → HasGiven g text [] now (t.given ++ row ∷ []) → (x : X) → stated row ≡ cells x → Fits x → Taken g text now stated cells Fits (rows ++ x ∷ [])
+took_more g text was now stated cells Fits rows t row on x same fit = record {
   given = t.given ++ row ∷ [];
   answer = on;
-  same = map_last told t.given row ∙ ap (λ xs. xs ++ told row ∷ []) t.same ∙ ap (λ c. map cells rows ++ c ∷ []) same ∙ sym (map_last cells rows x);
+  same = map_last stated t.given row ∙ ap (λ xs. xs ++ stated row ∷ []) t.same ∙ ap (λ c. map cells rows ++ c ∷ []) same ∙ sym (map_last cells rows x);
   fit = each_last Fits rows x t.fit fit;
 }
 
-module _ {S X : Type 0} (g : Ghosts S) (e : Edition) (shows told : Row → Row) (cells : X → Row) (key : X → ℕ) (Fits : X → Type 0) (sheet : Sheet) (text : List ℕ) (tells : TellsWhole e shows told cells key Fits sheet text)
+module _ {S X : Type 0} (g : Ghosts S) (e : Edition) (shows stated : Row → Row) (cells : X → Row) (key : X → ℕ) (Fits : X → Type 0) (sheet : Sheet) (text : List ℕ) (tells : TellsWhole e shows stated cells key Fits sheet text)
     (was : Held S) (old : State) (has : HasBankTables e old) (same : IsUnchanged old (state g was)) where
   -- at the end
-  pub took_all : (now : State) (rows : List X) (t : Taken g text was told cells Fits rows) → Shown text [] (state g was) now t.given → AreAll shows cells key Fits sheet old.now.trees rows
+  pub took_all : (now : State) (rows : List X) (t : Taken g text was stated cells Fits rows) → Shown text [] (state g was) now t.given → AreAll shows cells key Fits sheet old.now.trees rows
   took_all now rows t shown =
       subst (λ (d : Database). AreAll shows cells key Fits sheet d.trees rows) same.0.now_is
-      (are_all e shows told cells key Fits sheet text tells (state g was) now t.given rows (still_bank e old (state g was) same has) shown t.same t.fit)
+      (are_all e shows stated cells key Fits sheet text tells (state g was) now t.given rows (still_bank e old (state g was) same has) shown t.same t.fit)
 
   unchanged : IsUnchanged (state g was) (state g was)
   unchanged = (record { was_open = same.0.is_open; is_open = same.0.is_open; now_is = refl; committed_is = refl; mode = refl }, record { changes = refl; last_rowid = refl }, refl)
@@ -112,11 +111,11 @@ module _ {S X : Type 0} (g : Ghosts S) (e : Edition) (shows told : Row → Row) 
 
   -- a row that was given is one that the table holds, so that it can be read where each of those can
   pub took_unread : (given : List Row) (row : Row) → HasGiven g text [] was (given ++ row ∷ []) → (xs : List X) → HoldsRows shows cells key Fits xs (old.now.trees (tree_of sheet))
-      → (Readable : X → Type 0) → ((x : X) → Contains xs x → Readable x) → (fault : Fault) → IsUnread cells Readable (told row) fault → fault ≡ Memory
+      → (Readable : X → Type 0) → ((x : X) → Contains xs x → Readable x) → (fault : Fault) → IsUnread cells Readable (stated row) fault → fault ≡ Memory
   took_unread given row on xs held Readable readable fault unread =
       let shown = begins_shown text [] (state g was) (state g was) (given ++ row ∷ []) (given_begin g text [] was (given ++ row ∷ []) on) unchanged ends in
       let held_now = subst (λ (d : Database). HoldsRows shows cells key Fits xs (d.trees (tree_of sheet))) (sym same.0.now_is) held in
-      let answered = in_order_answered e shows told cells key Fits sheet text tells (state g was) (state g was) ((given ++ row ∷ []) ++ shown.0) xs (still_bank e old (state g was) same has) held_now shown.1 in
-      let one = subst (λ l. Contains l (told row)) answered (Contains-map told ((given ++ row ∷ []) ++ shown.0) row (there given row shown.0)) in
-      let source = Contains-map_source cells xs (told row) one in
+      let answered = in_order_answered e shows stated cells key Fits sheet text tells (state g was) (state g was) ((given ++ row ∷ []) ++ shown.0) xs (still_bank e old (state g was) same has) held_now shown.1 in
+      let one = subst (λ l. Contains l (stated row)) answered (Contains-map stated ((given ++ row ∷ []) ++ shown.0) row (there given row shown.0)) in
+      let source = Contains-map_source cells xs (stated row) one in
       for_memory fault (fault ≡ Memory) (λ is. is) (λ other. unread other source.0 (readable source.0 source.1.0) (sym source.1.1))

@@ -29,12 +29,12 @@ use Rattle.sql_schema.specs.Held.{IsIn, Sheet, tree_of}
 use Rattle.sql_schema.specs.HeldRows.{HoldsRows, all_but_rowid, all_of_it}
 use Rattle.sql_schema.specs.Schema.{schema_of}
 use Rattle.sql_schema.specs.declared.edition.Edition.{Edition}
-use Rattle.sql_schema.specs.Told.{columns_from, told_by_columns, told_by_key}
+use Rattle.sql_schema.specs.ReadBack.{columns_from, stored_by_columns, stored_by_rowid}
 use Rattle.sql_schema.proofs.ReadLemmas.{in_order_of_fitting, no_limit, no_offset}
 use Rattle.sql_schema.proofs.ScanLemmas.{passes, scan, scanned}
 use Rattle.sql_schema.proofs.StepLemmas.{shown_open}
 use Rattle.sql_whole.specs.Whole.{AreAll, HasBankTables, IsAlone, IsAnswered, IsQueryFor, TellsWhole}
-use Rattle.sql_whole.proofs.WidthLemmas.{columns_behind, columns_by_key, ends_needed, no_narrower, no_wider}
+use Rattle.sql_whole.proofs.WidthLemmas.{columns_after, columns_by_key, ends_needed, no_narrower, no_wider}
 
 -- ---- the rules of one table
 
@@ -75,11 +75,11 @@ module _ (tree : ℕ) (over : (db : Trees) → overlay db [] tree ≡ db tree) (
       subst (IsPermutation (map (λ r. (output q ([] ∷ r ∷ [])).1) (db tree))) (sym s.3) (subst (λ l. IsPermutation l (map (λ (o : Output). o.1) s.0)) (map-map (λ (o : Output). o.1) (λ r. output q ([] ∷ r ∷ [])) (db tree)) moved)
 
   -- so the rows of the answer represent the rows of the table, where each of them represents its own
-  pub all_told : (shows told : Row → Row) (db : Trees) (rows : List Row) → ((r : Row) → Has (db tree) r → told (output q ([] ∷ r ∷ [])).1 ≡ shows r) → IsProgramAnswer [] q db [] rows
-      → IsPermutation (map told rows) (map shows (db tree))
-  all_told shows told db rows tells h =
-      let read = IsPermutation-map told _ _ (all_shown db rows h) in
-      IsPermutation-sym _ _ (subst (λ l. IsPermutation l (map told rows)) (map-map told (λ r. (output q ([] ∷ r ∷ [])).1) (db tree) ∙ map_alike (λ r. told (output q ([] ∷ r ∷ [])).1) shows (db tree) tells) read)
+  pub all_read : (shows stated : Row → Row) (db : Trees) (rows : List Row) → ((r : Row) → Has (db tree) r → stated (output q ([] ∷ r ∷ [])).1 ≡ shows r) → IsProgramAnswer [] q db [] rows
+      → IsPermutation (map stated rows) (map shows (db tree))
+  all_read shows stated db rows tells h =
+      let read = IsPermutation-map stated _ _ (all_shown db rows h) in
+      IsPermutation-sym _ _ (subst (λ l. IsPermutation l (map stated rows)) (map-map stated (λ r. (output q ([] ∷ r ∷ [])).1) (db tree) ∙ map_alike (λ r. stated (output q ([] ∷ r ∷ [])).1) shows (db tree) tells) read)
 
 -- ---- in order of key
 
@@ -87,17 +87,17 @@ module _ (tree : ℕ) (over : (db : Trees) → overlay db [] tree ≡ db tree) (
 abbrev pub ComesInOrder : {X : Type 0} → (X → Row) → (X → ℕ) → (X → Type 0) → Query → Type 0
 ComesInOrder {X = X} row key Fits q = (x y : X) → Fits x → Fits y → key x < key y → output_cmp q (output q ([] ∷ row x ∷ [])) (output q ([] ∷ row y ∷ [])) ≡ Less
 
-module _ {X : Type 0} (shows back told : Row → Row) (cells : X → Row) (key : X → ℕ) (Fits : X → Type 0) (tree : ℕ) (over : (db : Trees) → overlay db [] tree ≡ db tree) (project : List Term) (order : List (Term × Key))
+module _ {X : Type 0} (shows back stated : Row → Row) (cells : X → Row) (key : X → ℕ) (Fits : X → Type 0) (tree : ℕ) (over : (db : Trees) → overlay db [] tree ≡ db tree) (project : List Term) (order : List (Term × Key))
     (reads : (r : Row) → output (whole_scan tree project order) ([] ∷ r ∷ []) ≡ output (whole_scan tree project order) ([] ∷ back (shows r) ∷ []))
-    (tells : (x : X) → told (output (whole_scan tree project order) ([] ∷ back (cells x) ∷ [])).1 ≡ cells x) where
+    (tells : (x : X) → stated (output (whole_scan tree project order) ([] ∷ back (cells x) ∷ [])).1 ≡ cells x) where
   -- the rows of the answer represent the rows that the table holds, in their order
-  pub told_in_order : ComesInOrder (λ x. back (cells x)) key Fits (whole_scan tree project order) → (db : Trees) (xs : List X) (rows : List Row) → HoldsRows shows cells key Fits xs (db tree)
-      → IsProgramAnswer [] (whole_scan tree project order) db [] rows → map told rows ≡ map cells xs
-  told_in_order rises db xs rows holds h =
+  pub stated_in_order : ComesInOrder (λ x. back (cells x)) key Fits (whole_scan tree project order) → (db : Trees) (xs : List X) (rows : List Row) → HoldsRows shows cells key Fits xs (db tree)
+      → IsProgramAnswer [] (whole_scan tree project order) db [] rows → map stated rows ≡ map cells xs
+  stated_in_order rises db xs rows holds h =
       let shown : X → Row = λ x. (output (whole_scan tree project order) ([] ∷ back (cells x) ∷ [])).1 in
       let every : filter (λ _. true) xs ≡ xs = filter_all (λ _. true) xs (all_of (λ _. true ≡ true) (λ _. refl) xs) in
-      ap (map told) (in_order_of_fitting shows back cells key Fits tree over [] project order no_limit no_offset [] (λ _. true) (λ r. (refl, reads r)) (λ x. refl) db xs rows holds h rises)
-      ∙ map-map told shown (filter (λ _. true) xs) ∙ (λ i. map (λ x. tells x i) (every i))
+      ap (map stated) (in_order_of_fitting shows back cells key Fits tree over [] project order no_limit no_offset [] (λ _. true) (λ r. (refl, reads r)) (λ x. refl) db xs rows holds h rises)
+      ∙ map-map stated shown (filter (λ _. true) xs) ∙ (λ i. map (λ x. tells x i) (every i))
 
 -- the query does not read the rowid
 abbrev pub ReadsNoRowid : Query → Type 0
@@ -114,7 +114,7 @@ pub tells_columns : (table : Table) (row : Row) → ends_needed table.key 0 tabl
     → columns_from 1 (length table.columns) row ≡ all_but_rowid row
 tells_columns table row need fits =
     let long = no_narrower table.key 0 table.columns row need fits.1 in
-    columns_behind row (length table.columns) (width table row fits.0 (omega (arith, long)))
+    columns_after row (length table.columns) (width table row fits.0 (omega (arith, long)))
 
 -- of a table whose key is its rowid, its first column
 pub tells_key : (table : Table) (row : Row) (more : ℕ) → table.key ≡ Some 0 → length table.columns ≡ more + 1 → length table.columns < length row
@@ -157,23 +157,23 @@ answers e text tree columns order names is = record {
 
 -- ---- the clauses of a read
 
-module _ {X : Type 0} (e : Edition) (shows told : Row → Row) (cells : X → Row) (key : X → ℕ) (fits : X → Type 0) (t : Sheet) (text : List ℕ) (tells : TellsWhole e shows told cells key fits t text) where
+module _ {X : Type 0} (e : Edition) (shows stated : Row → Row) (cells : X → Row) (key : X → ℕ) (fits : X → Type 0) (t : Sheet) (text : List ℕ) (tells : TellsWhole e shows stated cells key fits t text) where
   is_answer : (old new : State) (rows : List Row) → HasBankTables e old → Shown text [] old new rows → IsProgramAnswer [] tells.asks.query old.now.trees [] rows
   is_answer old new rows has h =
       let asks = tells.asks in
       (reads_as text [] old new (schema_of e) has.schema (Select (record { lets = []; body = asks.query }) asks.names) (known asks.query asks.names (understood (schema_of e) text) asks.is) asks.plain asks.unlisted rows h).answer
 
   -- the rows of an answer represent the rows of the table
-  pub all_answered : (old new : State) (rows : List Row) → HasBankTables e old → Shown text [] old new rows → IsPermutation (map told rows) (map shows (old.now.trees (tree_of t)))
+  pub all_answered : (old new : State) (rows : List Row) → HasBankTables e old → Shown text [] old new rows → IsPermutation (map stated rows) (map shows (old.now.trees (tree_of t)))
   all_answered old new rows has h =
       let sound = has.sound (shown_open text [] old new rows h) in
       tells.whole old.now.trees rows (subst (λ z. Obeys z old.now.trees) has.schema sound.obeys) (has.kept t tells.inside) (is_answer old new rows has h)
 
   -- in order of their keys
-  pub in_order_answered : (old new : State) (rows : List Row) (xs : List X) → HasBankTables e old → HoldsRows shows cells key fits xs (old.now.trees (tree_of t)) → Shown text [] old new rows → map told rows ≡ map cells xs
+  pub in_order_answered : (old new : State) (rows : List Row) (xs : List X) → HasBankTables e old → HoldsRows shows cells key fits xs (old.now.trees (tree_of t)) → Shown text [] old new rows → map stated rows ≡ map cells xs
   in_order_answered old new rows xs has held h = tells.ordered old.now.trees xs rows held (is_answer old new rows has h)
 
-  pub are_all : (old new : State) (rows : List Row) (xs : List X) → HasBankTables e old → Shown text [] old new rows → map told rows ≡ map cells xs → ((x : X) → Contains xs x → fits x)
+  pub are_all : (old new : State) (rows : List Row) (xs : List X) → HasBankTables e old → Shown text [] old new rows → map stated rows ≡ map cells xs → ((x : X) → Contains xs x → fits x)
       → AreAll shows cells key fits t old.now.trees xs
   are_all old new rows xs has h same fit = record {
     same = subst (λ l. IsPermutation l (map shows (old.now.trees (tree_of t)))) same (all_answered old new rows has h);
@@ -192,36 +192,36 @@ module _ {X : Type 0} (e : Edition) (cells : X → Row) (key : X → ℕ) (Fits 
   there : (db : Trees) (row : Row) → Has (db (tree_of t)) row → Has (db table.tree) row
   there db row h = subst (λ n. Has (db n) row) (sym place) h
 
-  -- of a table whose rowid is its key, with so many columns beside; the row is wide enough where the last column may not be missing, or there is none beside the key
+  -- of a table whose rowid is its key, with n columns beside; the row is wide enough where the last column may not be missing, or there is none beside the key
   pub by_rowid_whole : table.key ≡ Some 0 → length table.columns ≡ count + 1 → (count ≡ 0) ⊎ (ends_needed table.key 0 table.columns ≡ true)
-      → ((r : Row) → told_by_key count (output (whole_scan (tree_of t) columns order) ([] ∷ r ∷ [])).1 ≡ column r 0 ∷ Null ∷ columns_from 2 count r)
+      → ((r : Row) → stored_by_rowid count (output (whole_scan (tree_of t) columns order) ([] ∷ r ∷ [])).1 ≡ column r 0 ∷ Null ∷ columns_from 2 count r)
       → ((x : X) → column (cells x) 0 ∷ Null ∷ columns_from 2 count (cells x) ≡ cells x) → ComesInOrder cells key Fits (whole_scan (tree_of t) columns order)
-      → TellsWhole e all_of_it (told_by_key count) cells key Fits t text
-  by_rowid_whole keyed wide need told same rises = record {
+      → TellsWhole e all_of_it (stored_by_rowid count) cells key Fits t text
+  by_rowid_whole keyed wide need stated same rises = record {
     inside = inside;
     asks = answers e text (tree_of t) columns order names is;
-    whole = λ db answer obeys kept h. all_told (tree_of t) over columns order all_of_it (told_by_key count) db answer
+    whole = λ db answer obeys kept h. all_read (tree_of t) over columns order all_of_it (stored_by_rowid count) db answer
         (λ r here.
         let fits = of_table e db table obeys listed r (there db r here) in
-        told r ∙ tells_key table r count keyed wide (long r (kept.beside r (contains_had _ r here)) fits.1 need) fits)
+        stated r ∙ tells_key table r count keyed wide (long r (kept.beside r (contains_had _ r here)) fits.1 need) fits)
         h;
-    ordered = told_in_order all_of_it (λ r. r) (told_by_key count) cells key Fits (tree_of t) over columns order (λ r. refl) (λ x. told (cells x) ∙ same x) rises;
+    ordered = stated_in_order all_of_it (λ r. r) (stored_by_rowid count) cells key Fits (tree_of t) over columns order (λ r. refl) (λ x. stated (cells x) ∙ same x) rises;
   }
     where
       long : (r : Row) → 1 < length r → are_present table.key 0 table.columns r ≡ true → (count ≡ 0) ⊎ (ends_needed table.key 0 table.columns ≡ true) → length table.columns < length r
       long r beside present (inl none) = omega (arith, none, wide, beside)
       long r beside present (inr need) = let wide = no_narrower table.key 0 table.columns r need present in omega (arith, wide)
 
-  -- of any other table, with so many columns
+  -- of any other table, with n columns
   pub by_columns_whole : length table.columns ≡ count → ends_needed table.key 0 table.columns ≡ true
-      → ((r : Row) → told_by_columns count (output (whole_scan (tree_of t) columns order) ([] ∷ r ∷ [])).1 ≡ columns_from 1 count r) → ReadsNoRowid (whole_scan (tree_of t) columns order)
+      → ((r : Row) → stored_by_columns count (output (whole_scan (tree_of t) columns order) ([] ∷ r ∷ [])).1 ≡ columns_from 1 count r) → ReadsNoRowid (whole_scan (tree_of t) columns order)
       → ((x : X) → columns_from 1 count (Null ∷ cells x) ≡ cells x) → ComesInOrder (λ x. Null ∷ cells x) key Fits (whole_scan (tree_of t) columns order)
-      → TellsWhole e all_but_rowid (told_by_columns count) cells key Fits t text
-  by_columns_whole wide need told reads same rises = record {
+      → TellsWhole e all_but_rowid (stored_by_columns count) cells key Fits t text
+  by_columns_whole wide need stated reads same rises = record {
     inside = inside;
     asks = answers e text (tree_of t) columns order names is;
-    whole = λ db answer obeys kept h. all_told (tree_of t) over columns order all_but_rowid (told_by_columns count) db answer
-        (λ r here. told r ∙ ap (λ n. columns_from 1 n r) (sym wide) ∙ tells_columns table r need (of_table e db table obeys listed r (there db r here)))
+    whole = λ db answer obeys kept h. all_read (tree_of t) over columns order all_but_rowid (stored_by_columns count) db answer
+        (λ r here. stated r ∙ ap (λ n. columns_from 1 n r) (sym wide) ∙ tells_columns table r need (of_table e db table obeys listed r (there db r here)))
         h;
-    ordered = told_in_order all_but_rowid (λ r. Null ∷ r) (told_by_columns count) cells key Fits (tree_of t) over columns order reads (λ x. told (Null ∷ cells x) ∙ same x) rises;
+    ordered = stated_in_order all_but_rowid (λ r. Null ∷ r) (stored_by_columns count) cells key Fits (tree_of t) over columns order reads (λ x. stated (Null ∷ cells x) ∙ same x) rises;
   }

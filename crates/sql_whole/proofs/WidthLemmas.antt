@@ -10,7 +10,7 @@ use Rattle.sqlite_schema.specs.Rules.{are_present, are_typed}
 use Rattle.sqlite_schema.specs.declared.schema.Column.{Column}
 use Rattle.sqlite_sql.specs.Ops.{is_null}
 use Rattle.sqlite_value.specs.Order.{column}
-use Rattle.sql_schema.specs.Told.{columns_from}
+use Rattle.sql_schema.specs.ReadBack.{columns_from}
 
 -- a typed row has no more columns than its table
 pub no_wider : (key : Option ℕ) (at : ℕ) (columns : List Column) (values : Row) → are_typed key at columns values ≡ true → length values ≤ length columns
@@ -57,9 +57,9 @@ all_columns (v ∷ row) zero is = absurd (omega (arith, is))
 all_columns (v ∷ row) (suc count) is = ap (λ r. v ∷ r) (shift v row 0 count ∙ all_columns row count (omega (arith, is)))
 
 -- all but the rowid
-pub columns_behind : (row : Row) (count : ℕ) → length row ≡ count + 1 → columns_from 1 count row ≡ drop 1 row
-columns_behind [] count is = absurd (omega (arith, is))
-columns_behind (v ∷ row) count is = shift v row 0 count ∙ all_columns row count (omega (arith, is))
+pub columns_after : (row : Row) (count : ℕ) → length row ≡ count + 1 → columns_from 1 count row ≡ drop 1 row
+columns_after [] count is = absurd (omega (arith, is))
+columns_after (v ∷ row) count is = shift v row 0 count ∙ all_columns row count (omega (arith, is))
 
 null_is : (v : Value) → is_null v ≡ true → v ≡ Null
 null_is Null h = refl

@@ -3,7 +3,7 @@ use Rattle.std.specs.Prelude.{◌≡◌, ◌≢◌, [], ◌∷◌, List, map, Op
 use Rattle.sqlite.specs.declared.types.Value.TheVariants.{Int, Null}
 use Rattle.sqlite.specs.Order.{Row}
 use Rattle.sqlite.specs.Tree.{Trees}
-use Rattle.sql_schema.specs.Told.{told_by_key}
+use Rattle.sql_schema.specs.ReadBack.{stored_by_rowid}
 use Rattle.sql_whole.specs.declared.bank.BankRow.{BankRow}
 
 abbrev pub bank_row_cells : BankRow → Row
@@ -15,6 +15,6 @@ IsBankTable db (Some b) = db 0 ≡ bank_row_cells b ∷ []
 IsBankTable db None = (b : BankRow) → db 0 ≢ bank_row_cells b ∷ []
 
 -- the same of the rows that the rows of an answer represent
-abbrev pub IsToldBy : List Row → Option BankRow → Type 0
-IsToldBy rows (Some b) = map (told_by_key 2) rows ≡ bank_row_cells b ∷ []
-IsToldBy rows None = (b : BankRow) → map (told_by_key 2) rows ≢ bank_row_cells b ∷ []
+abbrev pub IsReadFrom : List Row → Option BankRow → Type 0
+IsReadFrom rows (Some b) = map (stored_by_rowid 2) rows ≡ bank_row_cells b ∷ []
+IsReadFrom rows None = (b : BankRow) → map (stored_by_rowid 2) rows ≢ bank_row_cells b ∷ []

@@ -80,10 +80,10 @@ pub record IsAnswered (e : Edition) (text : List ℕ) : Type 0 where
 
 -- The text is a query of which each answer represents the rows of a table, each once, in order of their keys where
 -- these differ: `shows` gives the part of a row that is compared, and `told` the same part from a row of the answer.
-pub record TellsWhole {X : Type 0} (e : Edition) (shows told : Row → Row) (cells : X → Row) (key : X → ℕ) (Fits : X → Type 0) (t : Sheet) (text : List ℕ) : Type 0 where
+pub record TellsWhole {X : Type 0} (e : Edition) (shows stated : Row → Row) (cells : X → Row) (key : X → ℕ) (Fits : X → Type 0) (t : Sheet) (text : List ℕ) : Type 0 where
   pub inside : IsIn e t
   pub asks : IsAnswered e text
   pub whole : (db : Trees) (answer : List Row) → Obeys (schema_of e) db → IsKeptTable (db (tree_of t)) → IsProgramAnswer [] asks.query db [] answer
-      → IsPermutation (map told answer) (map shows (db (tree_of t)))
+      → IsPermutation (map stated answer) (map shows (db (tree_of t)))
   pub ordered : (db : Trees) (xs : List X) (answer : List Row) → HoldsRows shows cells key Fits xs (db (tree_of t)) → IsProgramAnswer [] asks.query db [] answer
-      → map told answer ≡ map cells xs
+      → map stated answer ≡ map cells xs

@@ -3,10 +3,10 @@
 ghost use Rattle.std.specs.Prelude.{◌≡◌, ◌≢◌, IfErr, IfOk, false};
 ghost use Rattle.money.specs.declared.fault.Fault.TheVariants.{Memory};
 ghost use Rattle.sqlite.specs.Held.{state};
-ghost use Rattle.sql_schema.specs.Steps.{LeavesNone, WasOpen};
-ghost use Rattle.sql_whole.specs.BankRow.{IsBankTable, IsToldBy, bank_row_cells};
+ghost use Rattle.sql_schema.specs.Steps.{IsReadOnly};
+ghost use Rattle.sql_whole.specs.BankRow.{IsBankTable, IsReadFrom, bank_row_cells};
 ghost use Rattle.sql_whole.specs.Faults.{IsOfDatabase};
-ghost use Rattle.sql_schema.specs.Told.{told_by_key};
+ghost use Rattle.sql_schema.specs.ReadBack.{stored_by_rowid};
 ghost use Rattle.sql_schema.specs.declared.edition.Edition.{Edition};
 ghost use Rattle.sql_whole.specs.Whole.{IsThere, Reads};
 
@@ -35,8 +35,7 @@ pub fn bank_row<S: Alter>(conn: &mut Connection<S>) -> Result<Option<BankRow>, R
     ensures mode { conn.old.in_transaction ≡ false → conn.new.in_transaction ≡ false }
     ensures whole { (e : Edition) → Reads e (state S.Store conn.old) (state S.Store conn.new) IsBankTable result }
     ensures there { (e : Edition) → IsThere e (state S.Store conn.old) (state S.Store conn.new) result }
-    ensures open { WasOpen (state S.Store conn.old) (state S.Store conn.new) result }
-    ensures survives { LeavesNone (state S.Store conn.old) (state S.Store conn.new) }
+    ensures read_only { IsReadOnly (state S.Store conn.old) (state S.Store conn.new) result }
 {
     let rows = shown_rows(conn, QUERY, Table::Bank)?;
     only_row(&rows)
@@ -44,7 +43,7 @@ pub fn bank_row<S: Alter>(conn: &mut Connection<S>) -> Result<Option<BankRow>, R
 
 /// The row of the bank that these rows represent, or none where they are not one row of whole numbers.
 fn only_row(rows: &[Row]) -> Result<Option<BankRow>, ReadFault>
-    ensures told { IfOk result (IsToldBy rows.now) }
+    ensures stated { IfOk result (IsReadFrom rows.now) }
     ensures there { IfErr result IsOfDatabase }
 {
     if rows.len() != 1 {
@@ -59,8 +58,8 @@ fn only_row(rows: &[Row]) -> Result<Option<BankRow>, ReadFault>
 
 /// The row of the bank that a row of the answer represents.
 fn read_row(row: &Row) -> Result<BankRow, Fault>
-    ensures same { IfOk result (λ b. told_by_key 2 row.now ≡ bank_row_cells b) }
-    ensures unread { IfErr result (λ fault. fault ≢ Memory → (b : BankRow) → told_by_key 2 row.now ≢ bank_row_cells b) }
+    ensures same { IfOk result (λ b. stored_by_rowid 2 row.now ≡ bank_row_cells b) }
+    ensures unread { IfErr result (λ fault. fault ≢ Memory → (b : BankRow) → stored_by_rowid 2 row.now ≢ bank_row_cells b) }
 {
     Ok(BankRow {
         id: whole_at(row, 0)?,

@@ -5,8 +5,8 @@ ghost use Rattle.sqlite.specs.Held.{state};
 ghost use Rattle.sqlite.specs.declared.types.Value.TheVariants.{Int};
 ghost use Rattle.sqlite_value.specs.Order.{column};
 ghost use Rattle.sql_schema.specs.Readable.{IsReadableBranch, IsUnread};
-ghost use Rattle.sql_schema.specs.Steps.{LeavesNone, WasOpen};
-ghost use Rattle.sql_schema.specs.Told.{columns_from};
+ghost use Rattle.sql_schema.specs.Steps.{IsReadOnly};
+ghost use Rattle.sql_schema.specs.ReadBack.{columns_from};
 ghost use Rattle.sql_whole.specs.Faults.{IsOfDatabase};
 ghost use Rattle.sql_schema.specs.Heads.{IsReadableHead, branch_head};
 ghost use Rattle.sql_whole.specs.Tables.{AreBranches};
@@ -32,8 +32,7 @@ pub fn all_branches<S: Alter>(
     ensures whole { Reads edition (state S.Store conn.old) (state S.Store conn.new) (λ trees rows. AreBranches trees rows.items) result }
     ensures typed { IfOk result (λ rows. Each IsReadableBranch rows.items) }
     ensures takes { OnReadable edition (state S.Store conn.old) (state S.Store conn.new) (IfErr result IsOfDatabase) }
-    ensures open { WasOpen (state S.Store conn.old) (state S.Store conn.new) result }
-    ensures survives { LeavesNone (state S.Store conn.old) (state S.Store conn.new) }
+    ensures read_only { IsReadOnly (state S.Store conn.old) (state S.Store conn.new) result }
 {
     whole_table(alloc, conn, edition, QUERY, Table::Branches)
 }

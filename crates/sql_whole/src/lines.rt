@@ -3,7 +3,7 @@
 ghost use Rattle.std.specs.Prelude.{◌≡◌, IfErr, IfOk, false};
 ghost use Rattle.sqlite.specs.Held.{state};
 ghost use Rattle.sql_schema.specs.Readable.{IsReadableLine};
-ghost use Rattle.sql_schema.specs.Steps.{LeavesNone, WasOpen};
+ghost use Rattle.sql_schema.specs.Steps.{IsReadOnly};
 ghost use Rattle.sql_whole.specs.Tables.{AreLines};
 ghost use Rattle.sql_whole.specs.Faults.{IsOfDatabase};
 ghost use Rattle.sql_whole.specs.Typed.{Each};
@@ -28,8 +28,7 @@ pub fn all_lines<S: Alter>(
     ensures whole { Reads edition (state S.Store conn.old) (state S.Store conn.new) (λ trees rows. AreLines trees rows.items) result }
     ensures typed { IfOk result (λ rows. Each IsReadableLine rows.items) }
     ensures takes { OnReadable edition (state S.Store conn.old) (state S.Store conn.new) (IfErr result IsOfDatabase) }
-    ensures open { WasOpen (state S.Store conn.old) (state S.Store conn.new) result }
-    ensures survives { LeavesNone (state S.Store conn.old) (state S.Store conn.new) }
+    ensures read_only { IsReadOnly (state S.Store conn.old) (state S.Store conn.new) result }
 {
     whole_table(alloc, conn, edition, QUERY, Table::Lines)
 }

@@ -10,7 +10,7 @@ ghost use Rattle.sql_schema.specs.Held.{tree_of};
 ghost use Rattle.sql_schema.specs.HeldRows.{HoldsRows};
 ghost use Rattle.sql_schema.specs.Readable.{IsUnread};
 ghost use Rattle.sql_schema.specs.Schema.{schema_of};
-ghost use Rattle.sql_schema.specs.Steps.{LeavesNone, WasOpen};
+ghost use Rattle.sql_schema.specs.Steps.{IsReadOnly};
 ghost use Rattle.sql_schema.specs.declared.edition.Edition.{Edition as TheEdition};
 ghost use Rattle.sql_whole.specs.Faults.{IsErrorOfDatabase, IsOfDatabase};
 ghost use Rattle.sql_whole.specs.Typed.{Each};
@@ -30,13 +30,12 @@ pub(crate) fn whole_table<S: Alter, T: TableRow + Drop>(
     sql: &str,
     table: Table,
 ) -> Result<Vec<T>, ReadFault>
-    requires { TellsWhole edition T.shows T.told T.cells T.key T.fits T.sheet sql.now }
+    requires { TellsWhole edition T.shows T.stated T.cells T.key T.fits T.sheet sql.now }
     ensures mode { conn.old.in_transaction ≡ false → conn.new.in_transaction ≡ false }
     ensures whole { Reads edition (state S.Store conn.old) (state S.Store conn.new) (λ trees rows. AreAll T.shows T.cells T.key T.fits T.sheet trees rows.items) result }
     ensures typed { IfOk result (λ rows. Each T.readable rows.items) }
     ensures takes { HasCleanDisk (state S.Store conn.new) → HasBankTables edition (state S.Store conn.old) → (xs : List T) → HoldsRows T.shows T.cells T.key T.fits xs ((state S.Store conn.old).now.trees (tree_of T.sheet)) → ((x : T) → Contains xs x → T.readable x) → IfErr result IsOfDatabase }
-    ensures open { WasOpen (state S.Store conn.old) (state S.Store conn.new) result }
-    ensures survives { LeavesNone (state S.Store conn.old) (state S.Store conn.new) }
+    ensures read_only { IsReadOnly (state S.Store conn.old) (state S.Store conn.new) result }
 {
     match taken_rows(alloc, conn, edition, sql) {
         Ok(Ok(rows)) => Ok(rows),
@@ -52,15 +51,14 @@ fn taken_rows<S: Alter, T: TableRow + Drop>(
     edition: Edition,
     sql: &str,
 ) -> Result<Result<Vec<T>, Fault>, Error>
-    requires { TellsWhole edition T.shows T.told T.cells T.key T.fits T.sheet sql.now }
+    requires { TellsWhole edition T.shows T.stated T.cells T.key T.fits T.sheet sql.now }
     ensures mode { conn.old.in_transaction ≡ false → conn.new.in_transaction ≡ false }
     ensures whole { HasCleanDisk (state S.Store conn.new) → HasBankTables edition (state S.Store conn.old) → IfOk result (λ taken. IfOk taken (λ rows. AreAll T.shows T.cells T.key T.fits T.sheet (state S.Store conn.old).now.trees rows.items)) }
     ensures still { HasCleanDisk (state S.Store conn.new) → HasBankTables edition (state S.Store conn.old) → OnOk result (IsUnchanged (state S.Store conn.old) (state S.Store conn.new)) × KeepsCommit (state S.Store conn.old) (state S.Store conn.new) }
     ensures typed { IfOk result (λ taken. IfOk taken (λ rows. Each T.readable rows.items)) }
     ensures takes { HasCleanDisk (state S.Store conn.new) → HasBankTables edition (state S.Store conn.old) → (xs : List T) → HoldsRows T.shows T.cells T.key T.fits xs ((state S.Store conn.old).now.trees (tree_of T.sheet)) → ((x : T) → Contains xs x → T.readable x) → IfOk result (λ taken. IfErr taken (λ fault. fault ≡ Memory)) }
     ensures there { HasCleanDisk (state S.Store conn.new) → HasBankTables edition (state S.Store conn.old) → IfErr result IsErrorOfDatabase }
-    ensures open { WasOpen (state S.Store conn.old) (state S.Store conn.new) result }
-    ensures survives { LeavesNone (state S.Store conn.old) (state S.Store conn.new) }
+    ensures read_only { IsReadOnly (state S.Store conn.old) (state S.Store conn.new) result }
 {
     let mut list = Vec::new(alloc);
     let mut rows = conn.query(sql, &[])?;
@@ -77,8 +75,8 @@ fn taken_rows<S: Alter, T: TableRow + Drop>(
 
 /// Takes the row that a row of an answer represents, after those that were taken.
 fn take_row<T: TableRow + Drop>(alloc: Global, row: &Row, list: &mut Vec<T>) -> Result<(), Fault>
-    ensures taken { OnOk result ((x : T) × (T.told row.now ≡ T.cells x) × T.fits x × T.readable x × (list.new.items ≡ list.old.items ++ x ∷ [])) }
-    ensures unread { IfErr result (IsUnread T.cells T.readable (T.told row.now)) }
+    ensures taken { OnOk result ((x : T) × (T.stated row.now ≡ T.cells x) × T.fits x × T.readable x × (list.new.items ≡ list.old.items ++ x ∷ [])) }
+    ensures unread { IfErr result (IsUnread T.cells T.readable (T.stated row.now)) }
 {
     let read = T::read(alloc, row)?;
     list.push(read)?;
@@ -96,8 +94,7 @@ pub(crate) fn shown_rows<S: Alter>(
     ensures shown { HasCleanDisk (state S.Store conn.new) → IfOk result (λ rows. Shown sql.now [] (state S.Store conn.old) (state S.Store conn.new) rows.items) }
     ensures still { HasCleanDisk (state S.Store conn.new) → IsPlain (understood (state S.Store conn.old).now.schema sql.now) → OnOk result (IsUnchanged (state S.Store conn.old) (state S.Store conn.new)) × KeepsCommit (state S.Store conn.old) (state S.Store conn.new) }
     ensures there { HasCleanDisk (state S.Store conn.new) → (e : TheEdition) → (state S.Store conn.old).now.schema ≡ schema_of e → IsAnswered e sql.now → IfErr result IsOfDatabase }
-    ensures open { WasOpen (state S.Store conn.old) (state S.Store conn.new) result }
-    ensures survives { LeavesNone (state S.Store conn.old) (state S.Store conn.new) }
+    ensures read_only { IsReadOnly (state S.Store conn.old) (state S.Store conn.new) result }
 {
     match conn.query_all(sql, &[]) {
         Ok(rows) => Ok(rows),

@@ -3,7 +3,7 @@
 ghost use Rattle.std.specs.Prelude.{◌≡◌, IfErr, IfOk, false};
 ghost use Rattle.sqlite.specs.Held.{state};
 ghost use Rattle.sql_schema.specs.Readable.{IsReadableTriple};
-ghost use Rattle.sql_schema.specs.Steps.{LeavesNone, WasOpen};
+ghost use Rattle.sql_schema.specs.Steps.{IsReadOnly};
 ghost use Rattle.sql_schema.specs.declared.edition.Edition.TheVariants.{First, Second, Third};
 ghost use Rattle.sql_whole.specs.Tables.{AreTriples};
 ghost use Rattle.sql_whole.specs.Faults.{IsOfDatabase};
@@ -46,8 +46,7 @@ pub fn all_triples<S: Alter>(
     ensures whole { Reads edition (state S.Store conn.old) (state S.Store conn.new) (λ trees rows. AreTriples edition trees rows.items) result }
     ensures typed { IfOk result (λ rows. Each IsReadableTriple rows.items) }
     ensures takes { OnReadable edition (state S.Store conn.old) (state S.Store conn.new) (IfErr result IsOfDatabase) }
-    ensures open { WasOpen (state S.Store conn.old) (state S.Store conn.new) result }
-    ensures survives { LeavesNone (state S.Store conn.old) (state S.Store conn.new) }
+    ensures read_only { IsReadOnly (state S.Store conn.old) (state S.Store conn.new) result }
 {
     match edition {
         Edition::First => first_triples(alloc, conn),
@@ -65,8 +64,7 @@ fn first_triples<S: Alter>(
     ensures whole { Reads First (state S.Store conn.old) (state S.Store conn.new) (λ trees rows. AreTriples First trees rows.items) result }
     ensures typed { IfOk result (λ rows. Each IsReadableTriple rows.items) }
     ensures takes { OnReadable First (state S.Store conn.old) (state S.Store conn.new) (IfErr result IsOfDatabase) }
-    ensures open { WasOpen (state S.Store conn.old) (state S.Store conn.new) result }
-    ensures survives { LeavesNone (state S.Store conn.old) (state S.Store conn.new) }
+    ensures read_only { IsReadOnly (state S.Store conn.old) (state S.Store conn.new) result }
 {
     let rows = whole_table(alloc, conn, Edition::First, FIRST_QUERY, Table::Triples)?;
     match triples_of(alloc, &rows) {
@@ -107,7 +105,7 @@ impl TableRow for FirstTriple {
     ghost use Rattle.sql_schema.specs.Readable.{IsReadableTriple};
     ghost use Rattle.sql_schema.specs.declared.edition.Edition.TheVariants.{First};
     ghost use Rattle.bank_policy.specs.PolicyKeys.{triple_key};
-    ghost use Rattle.sql_schema.specs.Told.{told_by_columns};
+    ghost use Rattle.sql_schema.specs.ReadBack.{stored_by_columns};
 
     ghost sheet = { in_triples };
 
@@ -117,7 +115,7 @@ impl TableRow for FirstTriple {
 
     ghost shows = { all_but_rowid };
 
-    ghost told = { told_by_columns 4 };
+    ghost stated = { stored_by_columns 4 };
 
     ghost shown = { triple_cells_in First };
 
@@ -148,8 +146,7 @@ fn second_triples<S: Alter>(
     ensures whole { Reads Second (state S.Store conn.old) (state S.Store conn.new) (λ trees rows. AreTriples Second trees rows.items) result }
     ensures typed { IfOk result (λ rows. Each IsReadableTriple rows.items) }
     ensures takes { OnReadable Second (state S.Store conn.old) (state S.Store conn.new) (IfErr result IsOfDatabase) }
-    ensures open { WasOpen (state S.Store conn.old) (state S.Store conn.new) result }
-    ensures survives { LeavesNone (state S.Store conn.old) (state S.Store conn.new) }
+    ensures read_only { IsReadOnly (state S.Store conn.old) (state S.Store conn.new) result }
 {
     whole_table(alloc, conn, Edition::Second, GRANTS_QUERY, Table::Triples)
 }
@@ -163,8 +160,7 @@ fn third_triples<S: Alter>(
     ensures whole { Reads Third (state S.Store conn.old) (state S.Store conn.new) (λ trees rows. AreTriples Third trees rows.items) result }
     ensures typed { IfOk result (λ rows. Each IsReadableTriple rows.items) }
     ensures takes { OnReadable Third (state S.Store conn.old) (state S.Store conn.new) (IfErr result IsOfDatabase) }
-    ensures open { WasOpen (state S.Store conn.old) (state S.Store conn.new) result }
-    ensures survives { LeavesNone (state S.Store conn.old) (state S.Store conn.new) }
+    ensures read_only { IsReadOnly (state S.Store conn.old) (state S.Store conn.new) result }
 {
     whole_table(alloc, conn, Edition::Third, GRANTS_QUERY, Table::Triples)
 }

@@ -4,7 +4,7 @@ ghost use Rattle.std.specs.Prelude.{◌≡◌, IfErr, IfOk, false};
 ghost use Rattle.money.specs.declared.fault.Fault.TheVariants.{Memory};
 ghost use Rattle.sqlite.specs.Held.{state};
 ghost use Rattle.sql_schema.specs.Readable.{IsReadableUser};
-ghost use Rattle.sql_schema.specs.Steps.{LeavesNone, WasOpen};
+ghost use Rattle.sql_schema.specs.Steps.{IsReadOnly};
 ghost use Rattle.sql_whole.specs.Tables.{AreUsers};
 ghost use Rattle.sql_whole.specs.Faults.{IsOfDatabase};
 ghost use Rattle.sql_whole.specs.Typed.{Each};
@@ -30,8 +30,7 @@ pub fn all_users<S: Alter>(
     ensures whole { Reads edition (state S.Store conn.old) (state S.Store conn.new) (λ trees rows. AreUsers trees rows.items) result }
     ensures typed { IfOk result (λ rows. Each IsReadableUser rows.items) }
     ensures takes { OnReadable edition (state S.Store conn.old) (state S.Store conn.new) (IfErr result IsOfDatabase) }
-    ensures open { WasOpen (state S.Store conn.old) (state S.Store conn.new) result }
-    ensures survives { LeavesNone (state S.Store conn.old) (state S.Store conn.new) }
+    ensures read_only { IsReadOnly (state S.Store conn.old) (state S.Store conn.new) result }
 {
     let rows = shown_rows(conn, QUERY, Table::Users)?;
     match read_rows(alloc, &rows) {

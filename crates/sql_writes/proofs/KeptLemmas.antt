@@ -29,14 +29,14 @@ moves_kept {X} {E} old new change after says result kept steps tells clean insid
     (go result it.0 (tells clean inside (sheets_of w) (tables_of old.now w holds)), it.1)
   where
     go : (r : Result X E) → OnOk r (IsTrue new.in_transaction × HoldsTables new.now (after (sheets_of w))) → OnOk r (says (sheets_of w)) → OnOk r (IsTrue new.in_transaction × HoldsWorld new.now (written change w))
-    go (Ok x) h told =
-        let it = kept w holds.world.keepable told in
+    go (Ok x) h stated =
+        let it = kept w holds.world.keepable stated in
         (h.0, world_of new.now (written change w) it.keepable (subst (HoldsTables new.now) (sym it.sheets) h.1))
-    go (Err e) h told = tt
+    go (Err e) h stated = tt
 
 -- nothing is asked of the rows before it
-pub told_nothing : {X E : Type 0} (old new : State) (result : Result X E) → Tells old new (λ s. ⊤) result
-told_nothing {X} {E} old new result clean inside s holds = go result
+pub says_nothing : {X E : Type 0} (old new : State) (result : Result X E) → Tells old new (λ s. ⊤) result
+says_nothing {X} {E} old new result clean inside s holds = go result
   where
     go : (r : Result X E) → OnOk r ⊤
     go (Ok x) = tt
@@ -48,7 +48,7 @@ policy_moves old new change result steps tells = moves_kept old new (write.Polic
 
 -- a user's session
 pub session_moves : {X E : Type 0} (old new : State) (c : Session) (result : Result X E) → Steps old new (session_sheets c) result → Moves old new (written (write.Session c)) result
-session_moves old new c result steps = moves_kept old new (write.Session c) (session_sheets c) (λ s. ⊤) result (λ w can none. session_is_kept w c can) steps (told_nothing old new result)
+session_moves old new c result steps = moves_kept old new (write.Session c) (session_sheets c) (λ s. ⊤) result (λ w can none. session_is_kept w c can) steps (says_nothing old new result)
 
 -- the next version of the policy
 pub version_moves : {X E : Type 0} (old new : State) (result : Result X E) → Steps old new (version_sheets true) result → Moves old new (with_version true) result
@@ -64,10 +64,10 @@ kept_held new change after w (Ok x) it h = (h.0, world_of new.now (written chang
 kept_held new change after w (Err e) it h = tt
 
 -- the same where it is known from the step that it was made by
-pub kept_told : {X E : Type 0} (new : State) (change : RowWrite) (after : Sheets → Sheets) (w : WorldLists) (r : Result X E) (P : Type 0) → OnOk r P → (P → IsKept w change after)
+pub kept_read_back : {X E : Type 0} (new : State) (change : RowWrite) (after : Sheets → Sheets) (w : WorldLists) (r : Result X E) (P : Type 0) → OnOk r P → (P → IsKept w change after)
     → OnOk r (IsTrue new.in_transaction × HoldsTables new.now (after (sheets_of w))) → OnOk r (IsTrue new.in_transaction × HoldsWorld new.now (written change w))
-kept_told {X} {E} new change after w (Ok x) P told kept h = kept_held {X = X} {E = E} new change after w (Ok x) (kept told) h
-kept_told new change after w (Err e) P told kept h = tt
+kept_read_back {X} {E} new change after w (Ok x) P stated kept h = kept_held {X = X} {E = E} new change after w (Ok x) (kept stated) h
+kept_read_back new change after w (Err e) P stated kept h = tt
 
 -- the same of several changes that are written as one
 pub all_held : {X E : Type 0} (new : State) (changes : List RowWrite) (after : Sheets → Sheets) (w : WorldLists) (r : Result X E) → AreKept w changes after

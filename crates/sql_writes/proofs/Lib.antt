@@ -1,4 +1,5 @@
 pub mod KeptLemmas
+pub mod KnownLemmas
 pub mod PlaceLemmas
 pub mod PlanLemmas
 pub mod RequiredLemmas

@@ -71,7 +71,7 @@ pub set_moves : {X E : Type 0} (old mid new : State) (row : SetRow) (there : ℕ
 set_moves {X} {E} old mid new row there result is added free over steps few =
     policy_moves old new (policy.Set row) result
     (steps_then old mid new (λ s. record s { sets = add_row set_no there s.sets }) (λ s. record s { members = add_rows member_no (member_rows row) s.members }) (policy_sheets (policy.Set row)) (λ s. ⊤) result added
-    (λ clean inside s holds. tt) over steps (λ s holds told. ap (λ n. record s { sets = add_row set_no n s.sets; members = add_rows member_no (member_rows row) s.members }) is))
+    (λ clean inside s holds. tt) over steps (λ s holds stated. ap (λ n. record s { sets = add_row set_no n s.sets; members = add_rows member_no (member_rows row) s.members }) is))
     new_set
   where
     new_set : Tells old new (IsNew (policy.Set row)) result

@@ -1,20 +1,27 @@
 -- Steps one after another.
 use Rattle.std.specs.Prelude.{⊤}
-use Rattle.std.proofs.Common.{◌≡◌, ℕ, ◌+◌, ◌<◌, ◌||◌, not, nat_lt, List, Bool, Result, Ok, Err, IsTrue, OnOk, ap, subst, true, false, refl}
+use Rattle.std.specs.Borrow.{MutBor}
+use Rattle.std.proofs.Common.{◌≡◌, ℕ, ◌+◌, ◌<◌, ◌||◌, not, nat_lt, List, Bool, Result, Ok, Err, IsErr, IsTrue, OnOk, ap, subst, true, false, refl}
 use Rattle.std.proofs.lemmas.Bool.{lt-ltb}
+use Rattle.sqlite.specs.Held.{Held, state}
 use Rattle.sqlite.specs.State.{HasCleanDisk, KeepsCommit, State}
+use Rattle.sqlite_trees.specs.declared.store.Store.{Ghosts}
 use Rattle.keyed_rows.specs.Changed.{change_rows}
 use Rattle.bank_terms.specs.Limits.{max_version}
 use Rattle.bank_books.specs.Version.{changes_policy, has_version_for}
+use Rattle.bank_books.specs.WorldLists.{WorldLists}
 use Rattle.bank_books.specs.declared.row_write.RowWrite.{RowWrite}
 use Rattle.book_kept.specs.Changes.{version_sheets}
 use Rattle.book_kept.specs.Named.{IsUserRow}
-use Rattle.book_kept.specs.Sheets.{Sheets, set_row, user_no}
+use Rattle.book_kept.specs.Sheets.{Sheets, set_row, sheets_of, user_no}
 use Rattle.book_kept.specs.declared.records.KeptUser.{KeptUser}
 use Rattle.sql_schema.specs.Held.{HoldsTables}
 use Rattle.sql_schema.specs.Held.Sheet.{users as in_users}
-use Rattle.sql_schema.specs.Steps.{LeavesNone, Steps}
-use Rattle.sql_schema.proofs.StepLemmas.{early, kept_then}
+use Rattle.sql_schema.specs.Steps.{LeavesNone, Moves, Step, Steps}
+use Rattle.sql_schema.proofs.StepLemmas.{early, kept_then, none_ok}
+use Rattle.sql_schema.proofs.WorldLemmas.{tables_of}
+use Rattle.sql_writes.specs.Known.{MovesKnown}
+use Rattle.sql_writes.specs.declared.known.KnownRows.{KnownRows}
 use Rattle.sql_writes.proofs.SetLemmas.{set_made}
 
 -- a step that went through
@@ -49,14 +56,10 @@ version_steps old mid new version result found read over set =
     steps_then old mid new (λ s. s) (λ s. record s { version = version + 1 }) (version_sheets true) (λ s. version ≡ s.version) result read (λ clean inside s holds. found clean s holds) over set
     (λ s holds is. ap (λ n. record s { version = n + 1 }) is)
 
-pub on_ok : {X E : Type 0} (r : Result X E) (P : Type 0) → P → OnOk r P
-on_ok (Ok x) P it = it
-on_ok (Err e) P it = tt
-
 -- both went through
 pub stepped_then : (old mid new : State) (one two both : Sheets → Sheets) → SteppedBy old mid one → LeavesNone mid new → SteppedBy mid new two → ((s : Sheets) → two (one s) ≡ both s) → SteppedBy old new both
 stepped_then old mid new one two both first over second same =
-    steps_then {X = ⊤} {E = ⊤} old mid new one two both (λ s. ⊤) (Ok tt) first (λ clean inside s holds. tt) over second (λ s holds told. same s)
+    steps_then {X = ⊤} {E = ⊤} old mid new one two both (λ s. ⊤) (Ok tt) first (λ clean inside s holds. tt) over second (λ s holds stated. same s)
 
 -- below the last version there is one for every plan
 pub has_room : (version : ℕ) → version < max_version → (plan : List RowWrite) → IsTrue (has_version_for plan version)
@@ -65,3 +68,13 @@ has_room version below plan = go (changes_policy plan) (lt-ltb version max_versi
     go : (b : Bool) → nat_lt version max_version ≡ true → IsTrue (not b || nat_lt version max_version)
     go true is = is
     go false is = refl
+
+-- a refusal after one step moves nothing of a World
+pub moves_stopped : {S X Y E F : Type 0} {store : Ghosts S} {a b : MutBor (Held S)} {f : Sheets → Sheets} {first : Result X F} (after : WorldLists → WorldLists) (r : Result Y E)
+    → IsErr r → Step store a b f first → Moves (state store a.now) (state store b.now) after r
+moves_stopped {store = store} {a = a} after r is one clean inside w holds = (none_ok r _ is, (one.steps clean inside (sheets_of w) (tables_of (state store a.now).now w holds)).1)
+
+-- the same of a World of which rows are known
+pub known_stopped : {S X Y E F : Type 0} {store : Ghosts S} {a b : MutBor (Held S)} {f : Sheets → Sheets} {first : Result X F} (known : KnownRows) (after : WorldLists → WorldLists) (r : Result Y E)
+    → IsErr r → Step store a b f first → MovesKnown known (state store a.now) (state store b.now) after r
+known_stopped known after r is one clean inside w holds of = moves_stopped after r is one clean inside w holds

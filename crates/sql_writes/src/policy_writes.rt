@@ -13,7 +13,7 @@ ghost use Rattle.book_kept.specs.Named.{IsFree, IsUserRow};
 ghost use Rattle.book_kept.specs.Records.{member_rows};
 ghost use Rattle.book_kept.specs.Sheets.{Sheets, member_no, slip_no, user_no};
 ghost use Rattle.sql_schema.specs.Held.{HoldsTables};
-ghost use Rattle.sql_schema.specs.Steps.{LeavesNone, Moves, Stays, Steps, Tells};
+ghost use Rattle.sql_schema.specs.Steps.{Frame, Moves, Step, Tells};
 
 use crate::required::required;
 use bank_policy::{
@@ -27,36 +27,32 @@ use std::alloc::Global;
 
 /// A relation that is certified. One of its key that is there already is a fault of the disk.
 fn write_relation<S: Alter>(tx: &mut Transaction<'_, S>, relation: &Relation) -> Result<(), Fault>
-    ensures same_reference { tx.new.conn.ghost_name ≡ tx.old.conn.ghost_name }
+    ensures frame { Frame S.Store tx.old.conn tx.new.conn }
     ensures moves { Moves (state S.Store tx.old.conn.now) (state S.Store tx.new.conn.now) (written (write.Policy (policy.Relation relation.now))) result }
-    ensures survives { LeavesNone (state S.Store tx.old.conn.now) (state S.Store tx.new.conn.now) }
 {
     sql_policy::add_relation(tx, relation)
 }
 
 /// A relation that is certified no longer, with its triples.
 fn write_no_relation<S: Alter>(tx: &mut Transaction<'_, S>, key: &RelationKey) -> Result<(), Fault>
-    ensures same_reference { tx.new.conn.ghost_name ≡ tx.old.conn.ghost_name }
+    ensures frame { Frame S.Store tx.old.conn tx.new.conn }
     ensures moves { Moves (state S.Store tx.old.conn.now) (state S.Store tx.new.conn.now) (written (write.Policy (policy.NoRelation key.now))) result }
-    ensures survives { LeavesNone (state S.Store tx.old.conn.now) (state S.Store tx.new.conn.now) }
 {
     sql_policy::remove_relation(tx, key)
 }
 
 /// A triple that is given. One of its key that is there already is a fault of the disk, and so is one of no relation.
 fn write_triple<S: Alter>(tx: &mut Transaction<'_, S>, triple: &Triple) -> Result<(), Fault>
-    ensures same_reference { tx.new.conn.ghost_name ≡ tx.old.conn.ghost_name }
+    ensures frame { Frame S.Store tx.old.conn tx.new.conn }
     ensures moves { Moves (state S.Store tx.old.conn.now) (state S.Store tx.new.conn.now) (written (write.Policy (policy.Triple triple.now))) result }
-    ensures survives { LeavesNone (state S.Store tx.old.conn.now) (state S.Store tx.new.conn.now) }
 {
     sql_policy::add_triple(tx, triple)
 }
 
 /// A triple that is taken back.
 fn write_no_triple<S: Alter>(tx: &mut Transaction<'_, S>, key: &TripleKey) -> Result<(), Fault>
-    ensures same_reference { tx.new.conn.ghost_name ≡ tx.old.conn.ghost_name }
+    ensures frame { Frame S.Store tx.old.conn tx.new.conn }
     ensures moves { Moves (state S.Store tx.old.conn.now) (state S.Store tx.new.conn.now) (written (write.Policy (policy.NoTriple key.now))) result }
-    ensures survives { LeavesNone (state S.Store tx.old.conn.now) (state S.Store tx.new.conn.now) }
 {
     sql_policy::remove_triple(tx, key)
 }
@@ -66,9 +62,8 @@ fn write_certifier<S: Alter>(
     tx: &mut Transaction<'_, S>,
     certifier: &Certifier,
 ) -> Result<(), Fault>
-    ensures same_reference { tx.new.conn.ghost_name ≡ tx.old.conn.ghost_name }
+    ensures frame { Frame S.Store tx.old.conn tx.new.conn }
     ensures moves { Moves (state S.Store tx.old.conn.now) (state S.Store tx.new.conn.now) (written (write.Policy (policy.Certifier certifier.now))) result }
-    ensures survives { LeavesNone (state S.Store tx.old.conn.now) (state S.Store tx.new.conn.now) }
 {
     sql_policy::add_certifier(tx, certifier)
 }
@@ -78,9 +73,8 @@ fn write_no_certifier<S: Alter>(
     tx: &mut Transaction<'_, S>,
     certifier: &Certifier,
 ) -> Result<(), Fault>
-    ensures same_reference { tx.new.conn.ghost_name ≡ tx.old.conn.ghost_name }
+    ensures frame { Frame S.Store tx.old.conn tx.new.conn }
     ensures moves { Moves (state S.Store tx.old.conn.now) (state S.Store tx.new.conn.now) (written (write.Policy (policy.NoCertifier certifier.now))) result }
-    ensures survives { LeavesNone (state S.Store tx.old.conn.now) (state S.Store tx.new.conn.now) }
 {
     sql_policy::remove_certifier(tx, certifier)
 }
@@ -105,10 +99,8 @@ fn kept_user(alloc: Global, user: &User) -> Result<KeptUser, Fault>
 
 /// A user with their count of slips, of which they have none.
 fn put_user<S: Alter>(tx: &mut Transaction<'_, S>, kept: &KeptUser) -> Result<(), Fault>
-    ensures same_reference { tx.new.conn.ghost_name ≡ tx.old.conn.ghost_name }
-    ensures steps { Steps (state S.Store tx.old.conn.now) (state S.Store tx.new.conn.now) (λ s. record s { users = add_row user_no kept.now s.users; slip_counts = add_row slip_no (record { user = kept.now.row.user; slips = 0 }) s.slip_counts }) result }
+    ensures step { Step S.Store tx.old.conn tx.new.conn (λ s. record s { users = add_row user_no kept.now s.users; slip_counts = add_row slip_no (record { user = kept.now.row.user; slips = 0 }) s.slip_counts }) result }
     ensures free { Tells (state S.Store tx.old.conn.now) (state S.Store tx.new.conn.now) (λ s. IsFree user_no s.users (user_no kept.now)) result }
-    ensures survives { LeavesNone (state S.Store tx.old.conn.now) (state S.Store tx.new.conn.now) }
 {
     sql_policy::add_user(tx, kept)?;
     let count = SlipCount {
@@ -124,9 +116,8 @@ fn write_user<S: Alter>(
     tx: &mut Transaction<'_, S>,
     user: &User,
 ) -> Result<(), Fault>
-    ensures same_reference { tx.new.conn.ghost_name ≡ tx.old.conn.ghost_name }
+    ensures frame { Frame S.Store tx.old.conn tx.new.conn }
     ensures moves { Moves (state S.Store tx.old.conn.now) (state S.Store tx.new.conn.now) (written (write.Policy (policy.User user.now))) result }
-    ensures survives { LeavesNone (state S.Store tx.old.conn.now) (state S.Store tx.new.conn.now) }
 {
     let kept = kept_user(alloc, user)?;
     put_user(tx, &kept)
@@ -134,19 +125,16 @@ fn write_user<S: Alter>(
 
 /// The user of this number. One who isn't there is a fault of the disk.
 pub(crate) fn user_row<S: Alter>(tx: &mut Transaction<'_, S>, user: u32) -> Result<KeptUser, Fault>
-    ensures same_reference { tx.new.conn.ghost_name ≡ tx.old.conn.ghost_name }
+    ensures step { Step S.Store tx.old.conn tx.new.conn (λ s. s) result }
     ensures found { HasCleanDisk (state S.Store tx.new.conn.now) → (s : Sheets) → HoldsTables (state S.Store tx.old.conn.now).now s → IfOk result (IsUserRow s user) }
-    ensures steps { Stays (state S.Store tx.old.conn.now) (state S.Store tx.new.conn.now) result }
-    ensures survives { LeavesNone (state S.Store tx.old.conn.now) (state S.Store tx.new.conn.now) }
 {
     required(sql_policy::user_of(tx, user)?)
 }
 
 /// A user's latest session. Where the user isn't there it is a fault of the disk.
 pub fn write_session<S: Alter>(tx: &mut Transaction<'_, S>, session: &Session) -> Result<(), Fault>
-    ensures same_reference { tx.new.conn.ghost_name ≡ tx.old.conn.ghost_name }
+    ensures frame { Frame S.Store tx.old.conn tx.new.conn }
     ensures moves { Moves (state S.Store tx.old.conn.now) (state S.Store tx.new.conn.now) (written (write.Session session.now)) result }
-    ensures survives { LeavesNone (state S.Store tx.old.conn.now) (state S.Store tx.new.conn.now) }
 {
     let mut kept = user_row(tx, session.user)?;
     kept.row.session = session.session;
@@ -159,9 +147,8 @@ fn write_suspension<S: Alter>(
     tx: &mut Transaction<'_, S>,
     suspension: &Suspension,
 ) -> Result<(), Fault>
-    ensures same_reference { tx.new.conn.ghost_name ≡ tx.old.conn.ghost_name }
+    ensures frame { Frame S.Store tx.old.conn tx.new.conn }
     ensures moves { Moves (state S.Store tx.old.conn.now) (state S.Store tx.new.conn.now) (written (write.Policy (policy.Suspended suspension.now))) result }
-    ensures survives { LeavesNone (state S.Store tx.old.conn.now) (state S.Store tx.new.conn.now) }
 {
     let mut kept = user_row(tx, suspension.user)?;
     kept.row.suspended = suspension.suspended;
@@ -169,7 +156,7 @@ fn write_suspension<S: Alter>(
     sql_policy::set_user(tx, &kept)
 }
 
-/// Whether so many members have a place each, which is a number of 32 bits from 1 on.
+/// Whether `members` members have a place each, which is a number of 32 bits from 1 on.
 fn has_places(members: usize) -> bool
     ensures { IsTrue result ↔ (members < 2 ^ 32) }
 {
@@ -178,10 +165,8 @@ fn has_places(members: usize) -> bool
 
 /// The members of a set, at places 1, 2 and so on. More of them than places go is a fault of size.
 pub fn write_members<S: Alter>(tx: &mut Transaction<'_, S>, row: &ItemSet) -> Result<(), Fault>
-    ensures same_reference { tx.new.conn.ghost_name ≡ tx.old.conn.ghost_name }
-    ensures steps { Steps (state S.Store tx.old.conn.now) (state S.Store tx.new.conn.now) (λ s. record s { members = add_rows member_no (member_rows row.now) s.members }) result }
+    ensures step { Step S.Store tx.old.conn tx.new.conn (λ s. record s { members = add_rows member_no (member_rows row.now) s.members }) result }
     ensures few { OnOk result (length row.now.members < 2 ^ 32) }
-    ensures survives { LeavesNone (state S.Store tx.old.conn.now) (state S.Store tx.new.conn.now) }
 {
     let set = row.set();
     let members = row.members();
@@ -203,9 +188,8 @@ pub fn write_members<S: Alter>(tx: &mut Transaction<'_, S>, row: &ItemSet) -> Re
 
 /// A new set with its members. One of its number that is there already is a fault of the disk.
 fn write_set<S: Alter>(tx: &mut Transaction<'_, S>, row: &ItemSet) -> Result<(), Fault>
-    ensures same_reference { tx.new.conn.ghost_name ≡ tx.old.conn.ghost_name }
+    ensures frame { Frame S.Store tx.old.conn tx.new.conn }
     ensures moves { Moves (state S.Store tx.old.conn.now) (state S.Store tx.new.conn.now) (written (write.Policy (policy.Set row.now))) result }
-    ensures survives { LeavesNone (state S.Store tx.old.conn.now) (state S.Store tx.new.conn.now) }
 {
     sql_policy::add_set(tx, row.set())?;
     write_members(tx, row)
@@ -217,9 +201,8 @@ pub fn write_policy<S: Alter>(
     tx: &mut Transaction<'_, S>,
     change: &PolicyWrite,
 ) -> Result<(), Fault>
-    ensures same_reference { tx.new.conn.ghost_name ≡ tx.old.conn.ghost_name }
+    ensures frame { Frame S.Store tx.old.conn tx.new.conn }
     ensures moves { Moves (state S.Store tx.old.conn.now) (state S.Store tx.new.conn.now) (written (write.Policy change.now)) result }
-    ensures survives { LeavesNone (state S.Store tx.old.conn.now) (state S.Store tx.new.conn.now) }
 {
     match change {
         PolicyWrite::User(user) => write_user(alloc, tx, user),

@@ -9,7 +9,7 @@ use Rattle.money.specs.declared.fault.Fault.{Fault}
 pub reads_then : {A B : Type 0} (old mid new : Status) (first : A) (r : Result B Fault) (P : WorldLists → A → Type 0) (Q : WorldLists → B → Type 0)
     → ReadsRow old mid (Ok first) P → ReadsRow mid new r Q → ReadsRow old new r Q
 reads_then old mid new first r P Q a b = record {
-  told = λ clean w holds. b.told clean w (a.kept.kept w holds);
+  stated = λ clean w holds. b.stated clean w (a.kept.kept w holds);
   kept = record {
     answers = record {
       honest = λ clean. a.kept.answers.honest (b.kept.answers.honest clean);
@@ -47,7 +47,7 @@ keeps_with old new K L mark k stay = record {
 pub reads_with : {A : Type 0} (old new : Status) (K L : WorldLists → Type 0) (r : Result A Fault) (P : WorldLists → A → Type 0) → ReadsRow old new r P
     → (new.is_honest → (w : WorldLists) → old.holds w → K w → L w) → ReadsRow (with_kept old K) (with_kept new L) r P
 reads_with old new K L r P read stay = record {
-  told = λ clean w holds. read.told clean w holds.0;
+  stated = λ clean w holds. read.stated clean w holds.0;
   kept = keeps_with old new K L (mark_of r) read.kept stay;
   refused = read.refused;
   counted = read.counted;
@@ -65,7 +65,7 @@ pub reads_kept : {A B : Type 0} (old new : Status) (K L : WorldLists → Type 0)
     → (new.is_honest → (w : WorldLists) → old.holds w → K w → IfOk s (Q w))
     → ReadsRow old (with_kept new L) s Q
 reads_kept old new K L r s P Q read marks stay tell = record {
-  told = λ clean w holds. tell clean w holds ((read.kept.kept w holds).1 clean);
+  stated = λ clean w holds. tell clean w holds ((read.kept.kept w holds).1 clean);
   kept = subst (λ m. Keeps old (with_kept new L) m) (sym marks) kept;
   refused = λ stopped. marks ∙ read.refused stopped;
   counted = read.counted ∙ ap (λ m. count_after m old.fault_count) (sym marks);

@@ -11,7 +11,7 @@ use crate::known::Known;
 use crate::policy_cache::PolicyCache;
 use money::Fault;
 use std::alloc::Global;
-use store_rows::{Stands, Store, UserRecord};
+use store_rows::{Store, StoreState, UserRecord};
 
 /// A store that keeps rows of the policy that it read of the store below: triples of a user for a
 /// procedure, and relations of a procedure, at most `MAX_ENTRIES` of them. It answers from what it keeps
@@ -96,7 +96,7 @@ impl<S: Store> Cached<S> {
     /// The version of the policy that is kept, if one is and the store below is not stopped.
     fn kept_version(&self) -> Option<u64>
         ensures works { IsSome result → (S.status (below self.now)).is_stopped ≡ false }
-        ensures told { IfSome result (λ version. (w : WorldLists) → IfSome (known_version self.now) (IsKnownOf w) → version ≡ w.version) }
+        ensures stated { IfSome result (λ version. (w : WorldLists) → IfSome (known_version self.now) (IsKnownOf w) → version ≡ w.version) }
     {
         match &self.known {
             Some(known) if !self.store.is_stopped() => Some(known.version),
@@ -107,7 +107,7 @@ impl<S: Store> Cached<S> {
     /// What is kept of a user, if the store below is not stopped.
     pub(crate) fn kept_user(&self, user: u32) -> Option<Option<UserRecord>>
         ensures works { IsSome result → (S.status (below self.now)).is_stopped ≡ false }
-        ensures told { IfSome result (λ row. (w : WorldLists) → IfSome (known_version self.now) (IsKnownOf w) → row ≡ user_record w user) }
+        ensures stated { IfSome result (λ row. (w : WorldLists) → IfSome (known_version self.now) (IsKnownOf w) → row ≡ user_record w user) }
     {
         match &self.known {
             Some(known) if !self.store.is_stopped() => known.recall(user),
@@ -128,7 +128,7 @@ impl<S: Store> Cached<S> {
     }
 }
 
-impl<S: Store> Stands for Cached<S> {
+impl<S: Store> StoreState for Cached<S> {
     ghost status = { cached_status S.status };
 
     fn faults(&self) -> u64 {

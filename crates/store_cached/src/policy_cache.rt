@@ -70,7 +70,7 @@ impl PolicyCache {
     /// nothing is changed, where no rows of this version are kept, or where they are shared as often as can be
     /// counted. It takes no memory.
     pub fn recall(&mut self, key: Key, version: u64) -> Option<Rows>
-        ensures told { IfSome result (λ rows. (w : WorldLists) → AreFresh w self.old → version ≡ w.version → HasRows w key rows) }
+        ensures stated { IfSome result (λ rows. (w : WorldLists) → AreFresh w self.old → version ≡ w.version → HasRows w key rows) }
         ensures fresh { (w : WorldLists) → AreFresh w self.old → AreFresh w self.new }
         ensures first { OnSome result (IsFirst key version self.new) }
         ensures none { IfNone result (self.new ≡ self.old) }

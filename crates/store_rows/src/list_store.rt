@@ -13,7 +13,7 @@ ghost use Rattle.world_reads.specs.PolicyReads.{is_certifier, is_set, set_count,
 ghost use Rattle.store_rows.specs.ListStore.{ReadsList, list_status};
 ghost use Rattle.store_rows.specs.Status.{Changes, Refuses, Tells, count_after, mark_of};
 
-use crate::store::{BookReads, PolicyReads, ReportReads, SlipReads, Stands, Store};
+use crate::store::{BookReads, PolicyReads, ReportReads, SlipReads, Store, StoreState};
 use bank_books::{
     AccountRecord, BranchRecord, Entry, EntryRecord, Plan, Release, Slip, TellerRecord, World,
     account_record, branch_record, teller_record,
@@ -76,7 +76,7 @@ impl ListStore {
     }
 }
 
-impl Stands for ListStore {
+impl StoreState for ListStore {
     ghost status = { list_status };
 
     fn faults(&self) -> u64 {

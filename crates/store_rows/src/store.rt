@@ -22,7 +22,7 @@ use std::rc::RcSlice;
 use world_reads::{DrawerRecord, PolicyKey, PolicyRow, UserRecord};
 
 /// What represents a World, as long as it answers.
-pub trait Stands {
+pub trait StoreState {
     /// What it represents.
     ghost status: { Self → Status };
 
@@ -37,7 +37,7 @@ pub trait Stands {
 
 /// The reads by which the policy is judged and its commands are planned, and no others. Each answers
 /// what its definition says of the World, or a fault that changes nothing.
-pub trait PolicyReads: Stands {
+pub trait PolicyReads: StoreState {
     /// The user of this number and how many releases they were given, or none where no such user is there.
     fn user(&mut self, alloc: Global, user: u32) -> Result<Option<UserRecord>, Fault>
         ensures { ReadsRow (Self.status self.old) (Self.status self.new) result (λ w row. row ≡ user_record w user) };
@@ -86,7 +86,7 @@ pub trait PolicyReads: Stands {
 }
 
 /// The reads by which operations are judged by the books, and planned.
-pub trait BookReads: Stands {
+pub trait BookReads: StoreState {
     /// The account of this number with its balance and turns, or none where it isn't there.
     fn account(&mut self, alloc: Global, account: u32) -> Result<Option<AccountRecord>, Fault>
         ensures { ReadsRow (Self.status self.old) (Self.status self.new) result (λ w row. row ≡ account_record w account) };
@@ -122,7 +122,7 @@ pub trait BookReads: Stands {
 }
 
 /// The reads by which a slip is judged.
-pub trait SlipReads: Stands {
+pub trait SlipReads: StoreState {
     /// The slip of this number of a user, or none where it isn't there.
     fn slip(&mut self, alloc: Global, user: u32, number: u32) -> Result<Option<Slip>, Fault>
         ensures { ReadsRow (Self.status self.old) (Self.status self.new) result (λ w row. row ≡ slip w user number) };
@@ -133,9 +133,9 @@ pub trait SlipReads: Stands {
 }
 
 /// The reads that reports list: many rows at once, or one after another.
-pub trait ReportReads: Stands {
+pub trait ReportReads: StoreState {
     /// The entries of an account that are its turns from a first one on, as long as they are there,
-    /// at most so many, each with the balance after it. No request reads it.
+    /// at most `count`, each with the balance after it. No request reads it.
     fn entries_of(
         &mut self,
         alloc: Global,
@@ -154,7 +154,7 @@ pub trait ReportReads: Stands {
     ) -> Result<Option<EntryRecord>, Fault>
         ensures { ReadsRow (Self.status self.old) (Self.status self.new) result (λ w row. row ≡ entry_at w account turn) };
 
-    /// The accounts above a number that this user is shown at a moment, by number, at most so many. No request reads it.
+    /// The accounts above a number that this user is shown at a moment, by number, at most `count`. No request reads it.
     fn shown(
         &mut self,
         alloc: Global,

@@ -45,7 +45,7 @@ filtered_there p [] x there = there
 filtered_there {X = X} p (y ∷ ys) x there = go (p y) (filtered_there p ys x) there
   where
     go : (b : Bool) → (Contains (filter p ys) x → Contains ys x) → Contains (cond b (y ∷ filter p ys) (filter p ys)) x → Contains (y ∷ ys) x
-    go true rest here = elim (Contains-cons_cases y (filter p ys) x here) [ inl is ↦ (zero, omega arith, is) | inr behind ↦ Contains-tail y ys x (rest behind) ]
+    go true rest here = elim (Contains-cons_cases y (filter p ys) x here) [ inl is ↦ (zero, omega arith, is) | inr following ↦ Contains-tail y ys x (rest following) ]
     go false rest here = Contains-tail y ys x (rest here)
 
 -- none of their drawers is held by user 0

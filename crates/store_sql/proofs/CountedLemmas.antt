@@ -14,24 +14,24 @@ no_err it is = absurd cc
 
 pub answered : {A : Type 0} (answer counted : Result A Fault) (P : A → Type 0) → IsCounted answer counted → IfOk answer P → IfOk counted P
 answered (Ok it) counted P is says = subst (λ r. IfOk r P) (sym is.ok) says
-answered (Err fault) (Err told) P is says = tt
+answered (Err fault) (Err stated) P is says = tt
 answered (Err fault) (Ok it) P is says = no_err it is.err
 
 pub went_through : {A : Type 0} (answer counted : Result A Fault) (P : Type 0) → IsCounted answer counted → OnOk answer P → OnOk counted P
 went_through (Ok it) counted P is says = subst (λ r. OnOk r P) (sym is.ok) says
-went_through (Err fault) (Err told) P is says = tt
+went_through (Err fault) (Err stated) P is says = tt
 went_through (Err fault) (Ok it) P is says = no_err it is.err
 
 -- without a mark it went through
 pub unmarked : {A : Type 0} (answer counted : Result A Fault) (P : Type 0) → IsCounted answer counted → ◌≡◌ {A = Option Fault} (mark_of counted) None → OnOk answer P → P
 unmarked (Ok it) counted P is none says = says
-unmarked (Err fault) (Err told) P is none says = absurd cc
+unmarked (Err fault) (Err stated) P is none says = absurd cc
 unmarked (Err fault) (Ok it) P is none says = no_err it is.err
 
 -- the World after a change that went through, and the one before it after a change that did not
 pub marked : {A : Type 0} (answer counted : Result A Fault) (P : WorldLists → Type 0) (after before : WorldLists) → IsCounted answer counted → OnOk answer (P after) → OnErr answer (P before) → P (after_mark (mark_of counted) after before)
 marked (Ok it) counted P after before is done undone = subst (λ r. P (after_mark (mark_of r) after before)) (sym is.ok) done
-marked (Err fault) (Err told) P after before is done undone = undone
+marked (Err fault) (Err stated) P after before is done undone = undone
 marked (Err fault) (Ok it) P after before is done undone = no_err it is.err
 
 -- what is said where it went through, by what is known then

@@ -1,28 +1,36 @@
 -- The least account that is found by reads one after another.
-use Rattle.std.proofs.Common.{◌≡◌, ◌<◌, ◌+◌, ℕ, List, [], ◌∷◌, drop, length, get_or, find, Option, IsTrue, ap, sym, ◌∙◌}
+use Rattle.std.proofs.Common.{◌≡◌, ◌<◌, ◌+◌, ℕ, List, [], ◌∷◌, drop, length, get_or, find, Ok, Option, IsTrue, ap, sym, ◌∙◌}
+use Rattle.std.specs.Borrow.{MutBor}
 use Rattle.std.proofs.lemmas.List.{drop_more}
-use Rattle.sqlite.specs.State.{HasCleanDisk, KeepsCommit, State}
+use Rattle.sqlite.specs.Held.{Held, state}
+use Rattle.sqlite.specs.State.{HasCleanDisk}
+use Rattle.sqlite_trees.specs.declared.store.Store.{Ghosts}
 use Rattle.bank_policy.specs.HeldRows.{HeldTriple}
 use Rattle.bank_policy.specs.declared.rows.Member.{Member}
 use Rattle.bank_books.specs.declared.records.AccountRecord.{AccountRecord}
 use Rattle.book_kept.specs.Sheets.{Sheets}
 use Rattle.sql_schema.specs.Held.{HoldsTables}
-use Rattle.sql_schema.proofs.StepLemmas.{early, kept_then}
-use Rattle.sql_schema.specs.Steps.{LeavesNone}
+use Rattle.sql_schema.specs.Steps.{Step, Tells}
+use Rattle.sql_schema.proofs.StepChains.{answered, then_step}
+use Rattle.sql_schema.proofs.StepLemmas.{early}
 use Rattle.store_sql.specs.LeastShown.{is_shown_by, least_by, lower}
 
--- the tables hold what they held, of which this is said
-abbrev pub ToldSoFar : State → State → (Sheets → Type 0) → Type 0
-ToldSoFar first now says =
-    HasCleanDisk now → IsTrue first.in_transaction → (s : Sheets) → HoldsTables first.now s → (IsTrue now.in_transaction × HoldsTables now.now s × says s) × KeepsCommit first now
+-- The tables hold what they held, of which this is said. A connection that is open was open.
+pub record SoFar {S : Type 0} (store : Ghosts S) (first now : MutBor (Held S)) (says : Sheets → Type 0) : Type 0 where
+  pub step : Step {X = Unit {0}} {E = Unit {0}} store first now (λ s. s) (Ok tt)
+  pub found : Tells {X = Unit {0}} {E = Unit {0}} (state store first.now) (state store now.now) says (Ok tt)
+  pub was_open : HasCleanDisk (state store now.now) → IsTrue (state store now.now).is_open → IsTrue (state store first.now).is_open
 
-pub told_next : (first mid last : State) (says then : Sheets → Type 0) → LeavesNone mid last → ToldSoFar first mid says
-    → (HasCleanDisk last → IsTrue mid.in_transaction → (s : Sheets) → HoldsTables mid.now s → (IsTrue last.in_transaction × HoldsTables last.now s) × KeepsCommit mid last)
-    → (HasCleanDisk last → IsTrue mid.in_transaction → (s : Sheets) → HoldsTables mid.now s → says s → then s) → ToldSoFar first last then
-told_next first mid last says then survives read steps next clean inside s holds =
-    let before = read (early mid last _ survives clean) inside s holds in
-    let step = steps clean before.0.0 s before.0.1 in
-    ((step.0.0, step.0.1, next clean before.0.0 s before.0.1 before.0.2), kept_then first mid last before.1 step.1)
+pub next_so_far : {S X E : Type 0} {store : Ghosts S} {a b c : MutBor (Held S)} {says following : Sheets → Type 0} {x : X} → SoFar store a b says → Step {E = E} store b c (λ s. s) (Ok x)
+    → (HasCleanDisk (state store c.now) → IsTrue (state store c.now).is_open → IsTrue (state store b.now).is_open)
+    → (HasCleanDisk (state store c.now) → IsTrue (state store b.now).in_transaction → (s : Sheets) → HoldsTables (state store b.now).now s → says s → following s) → SoFar store a c following
+next_so_far {store = store} {b = b} {c = c} so_far step opens next =
+    let before = early (state store b.now) (state store c.now) _ step.survives in
+    record {
+      step = then_step so_far.step (answered step (Ok tt));
+      found = λ clean inside s holds. let was = so_far.step.steps (before clean) inside s holds in next clean was.0.0 s was.0.1 (so_far.found (before clean) inside s holds);
+      was_open = λ clean is_open. so_far.was_open (before clean) (opens clean is_open);
+    }
 
 -- the least of what the members of each of the triples hold, and of one more
 abbrev pub least_of : List AccountRecord → ℕ → List HeldTriple → Option AccountRecord → Option AccountRecord

@@ -25,19 +25,19 @@ lower_finds : (p q : AccountRecord → Bool) (rows : List AccountRecord) → IsO
 lower_finds p q [] o = refl
 lower_finds p q (x ∷ xs) o = go (p x) (q x) (lower_finds p q xs (record { in_order = λ i j d le below. o.in_order (suc i) (suc j) d (omega arith) (omega arith); distinct = o.distinct.1 }))
   where
-    behind : (y : AccountRecord) → Contains xs y → x.row.account ≤ y.row.account
-    behind y (k, within, is) = subst (λ z. x.row.account ≤ z.row.account) is (o.in_order 0 (suc k) y (omega arith) (omega arith))
+    following : (y : AccountRecord) → Contains xs y → x.row.account ≤ y.row.account
+    following y (k, within, is) = subst (λ z. x.row.account ≤ z.row.account) is (o.in_order 0 (suc k) y (omega arith) (omega arith))
 
     first : (r : Option AccountRecord) → find q xs ≡ r → lower (Some x) r ≡ Some x
     first None is = refl
-    first (Some y) is = ap (λ b. cond b (Some x) (Some y)) (le_yes x.row.account y.row.account (behind y (find-found q xs y is).0))
+    first (Some y) is = ap (λ b. cond b (Some x) (Some y)) (le_yes x.row.account y.row.account (following y (find-found q xs y is).0))
 
     second : (r : Option AccountRecord) → find p xs ≡ r → lower r (Some x) ≡ Some x
     second None is = refl
     second (Some y) is =
         let there = (find-found p xs y is).0 in
         let apart : x.row.account ≢ y.row.account = first_apart account_no x xs y o.distinct there in
-        let low = behind y there in
+        let low = following y there in
         ap (λ b. cond b (Some y) (Some x)) (le_no x.row.account y.row.account (omega arith))
 
     same : (b : Bool) → ◌≡◌ {A = Option AccountRecord} (cond b (Some x) (Some x)) (Some x)

@@ -14,14 +14,14 @@ use Rattle.book_kept.specs.Keepable.{IsKeepable}
 use Rattle.book_kept.specs.Records.{kept_user_of}
 use Rattle.book_kept.specs.Sheets.{sheets_of, user_no}
 use Rattle.book_kept.specs.declared.records.KeptUser.{KeptUser}
-use Rattle.book_kept.proofs.PlainKept.{rows_are_told}
+use Rattle.book_kept.proofs.PlainKept.{rows_determine_answers}
 use Rattle.sql_schema.proofs.KeyTests.{two_parts}
-use Rattle.store_sql.specs.Shown.{user_told}
+use Rattle.store_sql.specs.Shown.{user_read}
 
-pub user_is : (w : WorldLists) (user : ℕ) → IsKeepable w → (found : Option KeptUser) (told : Option UserRecord) → told ≡ option_map user_told found → found ≡ find (λ u. user_no u == user) (sheets_of w).users → told ≡ user_record w user
-user_is w user can found told is at = is ∙ ap (option_map user_told) (at ∙ (rows_are_told w user can).user) ∙ twice (user_row w.policy user)
+pub user_is : (w : WorldLists) (user : ℕ) → IsKeepable w → (found : Option KeptUser) (stated : Option UserRecord) → stated ≡ option_map user_read found → found ≡ find (λ u. user_no u == user) (sheets_of w).users → stated ≡ user_record w user
+user_is w user can found stated is at = is ∙ ap (option_map user_read) (at ∙ (rows_determine_answers w user can).user) ∙ twice (user_row w.policy user)
   where
-    twice : (o : Option User) → option_map user_told (option_map (kept_user_of w) o) ≡ option_map (user_record_of w) o
+    twice : (o : Option User) → option_map user_read (option_map (kept_user_of w) o) ≡ option_map (user_record_of w) o
     twice None = refl
     twice (Some u) = refl
 

@@ -27,7 +27,7 @@ take-map f (suc n) [] = refl
 take-map f (suc n) (x ∷ xs) = ap (λ ys. f x ∷ ys) (take-map f n xs)
 
 module _ (accounts : List AccountRecord) (held : List HeldTriple) where
-  -- those above a number, at most so many
+  -- those above a number, at most n
   abbrev pub above : ℕ → ℕ → List AccountRecord
   above after count = take count (filter (is_held_above held after) accounts)
 

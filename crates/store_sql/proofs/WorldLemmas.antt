@@ -7,7 +7,7 @@ use Rattle.bank_books.specs.Keys.{line_key, proof_key, release_key, slip_key}
 use Rattle.bank_books.specs.SlipRow.{SlipRow}
 use Rattle.bank_books.specs.WorldLists.{WorldLists}
 use Rattle.book_kept.specs.Sheets.{Sheets, account_no, branch_no, entry_no, member_no, sheets_of, slip_no, teller_no, user_no}
-use Rattle.book_kept.proofs.SheetsTell.{sheets_tell_world}
+use Rattle.book_kept.proofs.SheetsDetermine.{sheets_determine_world}
 use Rattle.sql_schema.specs.Cells.{AnyRow, EntryFits, LineFits, MemberFits, ProofFits, RelationFits, ReleaseFits, SlipFits, TripleFitsIn, account_cells, branch_cells, certifier_cells, entry_cells, line_cells, member_cells, proof_cells, relation_cells, release_cells, set_cells, slip_cells, slip_count_cells, teller_cells, triple_cells_in, user_cells}
 use Rattle.sql_schema.specs.Held.{AreOfWorld, AreOfWorldIn, HoldsSheetsIn, HoldsSlipCountsIn, HoldsSlipsIn, set_no, without_slips}
 use Rattle.sql_schema.specs.declared.edition.Edition.{Edition}
@@ -57,7 +57,7 @@ same_sheets e s t trees h k =
 
 -- a crash that may leave trees may leave one World
 pub same_world_in : (e : Edition) (v w : WorldLists) (trees : Trees) → AreOfWorldIn e v trees → AreOfWorldIn e w trees → v ≡ w
-same_world_in e v w trees h k = sheets_tell_world v w h.keepable k.keepable (same_sheets e (sheets_of v) (sheets_of w) trees h.rows k.rows)
+same_world_in e v w trees h k = sheets_determine_world v w h.keepable k.keepable (same_sheets e (sheets_of v) (sheets_of w) trees h.rows k.rows)
 
 pub same_world : (v w : WorldLists) (trees : Trees) → AreOfWorld v trees → AreOfWorld w trees → v ≡ w
 same_world = same_world_in newest

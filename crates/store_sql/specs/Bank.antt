@@ -5,6 +5,8 @@ use Rattle.sqlite.specs.Tree.{Trees}
 use Rattle.bank_books.specs.WorldLists.{WorldLists}
 use Rattle.store_rows.specs.Status.{Status}
 use Rattle.sql_schema.specs.Held.{AreOfWorld, HoldsBank}
+use Rattle.sql_writes.specs.Known.{AreKnownOf}
+use Rattle.sql_writes.specs.declared.known.KnownRows.{KnownRows}
 
 -- as long as the connection is open, its tables hold this World, also after a fault of the disk
 abbrev pub Holds : State → WorldLists → Type 0
@@ -28,3 +30,12 @@ sql_status s is_stopped faults failures = record {
   may_leave = MayLeave s;
   leaves_a_world = LeavesAWorld s;
 }
+
+-- what is known is so of every World: nothing
+abbrev pub KnowsNothing : KnownRows → Type 0
+KnowsNothing known = (w : WorldLists) → AreKnownOf w known
+
+-- It represents the Worlds that the tables hold and of which the rows are that are known. Of a disk that has not returned what was
+-- written nothing is said.
+abbrev pub with_known : KnownRows → Status → Status
+with_known known s = record s { holds = λ w. s.holds w × (s.is_honest → AreKnownOf w known) }

@@ -74,10 +74,7 @@ impl Question for TellerRow {
         alloc: Global,
         tx: &mut Transaction<'_, S>,
     ) -> Result<Option<TellerRecord>, Fault> {
-        match sql_books::teller_of(tx, self.teller) {
-            Ok(found) => Ok(record_of(found)),
-            Err(fault) => Err(fault),
-        }
+        Ok(record_of(sql_books::teller_of(tx, self.teller)?))
     }
 }
 
@@ -107,10 +104,7 @@ impl Question for VaultCash {
         alloc: Global,
         tx: &mut Transaction<'_, S>,
     ) -> Result<Option<i128>, Fault> {
-        match sql_books::branch_of(tx, self.branch) {
-            Ok(found) => Ok(vault_of(found)),
-            Err(fault) => Err(fault),
-        }
+        Ok(vault_of(sql_books::branch_of(tx, self.branch)?))
     }
 }
 
@@ -143,10 +137,7 @@ impl Question for DrawerRow {
         alloc: Global,
         tx: &mut Transaction<'_, S>,
     ) -> Result<Option<DrawerRecord>, Fault> {
-        match sql_books::teller_of(tx, self.teller) {
-            Ok(found) => Ok(drawer_of(record_of(found))),
-            Err(fault) => Err(fault),
-        }
+        Ok(drawer_of(record_of(sql_books::teller_of(tx, self.teller)?)))
     }
 }
 
@@ -178,10 +169,8 @@ impl Question for Roster {
         alloc: Global,
         tx: &mut Transaction<'_, S>,
     ) -> Result<Vec<TellerRecord>, Fault> {
-        match sql_books::roster(tx, self.branch) {
-            Ok(kept) => records_of(alloc, &kept),
-            Err(fault) => Err(fault),
-        }
+        let kept = sql_books::roster(tx, self.branch)?;
+        records_of(alloc, &kept)
     }
 }
 
@@ -213,10 +202,7 @@ impl Question for EntryRow {
         alloc: Global,
         tx: &mut Transaction<'_, S>,
     ) -> Result<Option<Entry>, Fault> {
-        match sql_books::entry_of(tx, self.branch, self.number) {
-            Ok(found) => Ok(row_of(found)),
-            Err(fault) => Err(fault),
-        }
+        Ok(row_of(sql_books::entry_of(tx, self.branch, self.number)?))
     }
 }
 
@@ -242,9 +228,7 @@ impl Question for IsUndone {
     ghost says = { λ asked w is. is ≡ undone w asked.branch asked.number };
 
     fn ask<S: Alter>(&self, alloc: Global, tx: &mut Transaction<'_, S>) -> Result<bool, Fault> {
-        match sql_books::is_undone(tx, self.branch, self.number) {
-            Ok(found) => Ok(is_of_one(self.number, found)),
-            Err(fault) => Err(fault),
-        }
+        let found = sql_books::is_undone(tx, self.branch, self.number)?;
+        Ok(is_of_one(self.number, found))
     }
 }

@@ -1,4 +1,4 @@
-//! Reads of accounts, tellers, branches, entries and cash: each asks its question of the tables.
+//! Reads of accounts, tellers, branches, entries and cash: each asks its question of the tables, but of a row that is known.
 
 use crate::book_questions::{
     AccountRow, BranchRow, DrawerRow, EntryRow, IsUndone, Roster, TellerRow, VaultCash,
@@ -13,15 +13,30 @@ use world_reads::DrawerRecord;
 
 impl<S: Alter> BookReads for SqlStore<S> {
     fn account(&mut self, alloc: Global, account: u32) -> Result<Option<AccountRecord>, Fault> {
-        self.ask(alloc, &AccountRow { account })
+        if let Some(row) = self.known_account(account) {
+            return Ok(Some(row));
+        }
+        let row = self.ask(alloc, &AccountRow { account })?;
+        self.keep_account(account, &row);
+        Ok(row)
     }
 
     fn teller(&mut self, alloc: Global, teller: u32) -> Result<Option<TellerRecord>, Fault> {
-        self.ask(alloc, &TellerRow { teller })
+        if let Some(row) = self.known_teller(teller) {
+            return Ok(Some(row));
+        }
+        let row = self.ask(alloc, &TellerRow { teller })?;
+        self.keep_teller(teller, &row);
+        Ok(row)
     }
 
     fn branch(&mut self, alloc: Global, branch: u32) -> Result<Option<BranchRecord>, Fault> {
-        self.ask(alloc, &BranchRow { branch })
+        if let Some(row) = self.known_branch(branch) {
+            return Ok(Some(row));
+        }
+        let row = self.ask(alloc, &BranchRow { branch })?;
+        self.keep_branch(branch, &row);
+        Ok(row)
     }
 
     fn roster(&mut self, alloc: Global, branch: u32) -> Result<Vec<TellerRecord>, Fault> {

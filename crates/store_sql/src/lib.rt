@@ -1,8 +1,8 @@
 //! `SqlStore` is a store over any SQL connection, with the promises of every store. Each read is a
-//! `Question` to the tables, answered exactly in a transaction of its own. `apply` does a plan whole or
-//! nothing in one transaction; a crash leaves what it could leave before or the World with the plan, and
-//! after an answer without a fault that World alone. A fault of the disk stops the store. That calls go
-//! through is only tested.
+//! `Question` to the tables in a transaction of its own, or answered of a known row. `apply` does a
+//! plan whole or nothing; a crash leaves what it could leave before or the World with the
+//! plan, and after an answer without a fault that World alone. A fault of the disk stops the store. That
+//! calls go through is only tested.
 #![tactic(auto)]
 
 mod applying;

@@ -5,7 +5,7 @@ ghost use Rattle.std.specs.Rc.{rc_slice_items};
 ghost use Rattle.bank_policy.specs.HeldRows.{relations_of, triples_of};
 ghost use Rattle.world_reads.specs.BookReads.{release};
 ghost use Rattle.world_reads.specs.PolicyReads.{is_certifier, is_set, set_count, triple_count, user_record};
-ghost use Rattle.store_sql.specs.Shown.{user_told};
+ghost use Rattle.store_sql.specs.Shown.{user_read};
 
 use bank_books::Release;
 use bank_policy::{CertifiedRow, HeldRow, Standing};
@@ -20,7 +20,7 @@ use world_reads::UserRecord;
 
 /// What a store answers of a user, by the row that is kept of them.
 fn record_of(found: Option<KeptUser>) -> Option<UserRecord>
-    ensures { result ≡ option_map user_told found }
+    ensures { result ≡ option_map user_read found }
 {
     match found {
         Some(kept) => Some(UserRecord {
@@ -53,10 +53,7 @@ impl Question for UserRow {
         _alloc: Global,
         tx: &mut Transaction<'_, S>,
     ) -> Result<Option<UserRecord>, Fault> {
-        match sql_policy::user_of(tx, self.user) {
-            Ok(found) => Ok(record_of(found)),
-            Err(fault) => Err(fault),
-        }
+        Ok(record_of(sql_policy::user_of(tx, self.user)?))
     }
 }
 

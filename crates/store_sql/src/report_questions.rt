@@ -54,22 +54,20 @@ impl Question for NextTeller {
         alloc: Global,
         tx: &mut Transaction<'_, S>,
     ) -> Result<Option<TellerRecord>, Fault> {
-        match sql_books::next_teller(tx, self.branch, self.after) {
-            Ok(found) => Ok(record_of(found)),
-            Err(fault) => Err(fault),
-        }
+        let found = sql_books::next_teller(tx, self.branch, self.after)?;
+        Ok(record_of(found))
     }
 }
 
 /// The entries of an account that are its turns from a first one on, as long as they are there, at
-/// most so many, each with the balance after it.
+/// most `count`, each with the balance after it.
 #[derive(Clone, Copy)]
 pub struct EntriesOf {
     /// The account.
     pub account: u32,
     /// The first turn.
     pub start: u32,
-    /// At most so many.
+    /// The most of them.
     pub count: u32,
 }
 
@@ -114,14 +112,14 @@ impl Question for NextShown {
     }
 }
 
-/// The accounts above a number that a user is shown, by number, each once, at most so many.
+/// The accounts above a number that a user is shown, by number, each once, at most `count`.
 #[derive(Clone, Copy)]
 pub struct Shown {
     /// The user.
     pub user: u32,
     /// The number that the accounts' are above.
     pub after: u32,
-    /// At most so many.
+    /// The most of them.
     pub count: u32,
     /// The moment of the question.
     pub moment: u64,

@@ -9,7 +9,7 @@ ghost use Rattle.bank_policy.specs.HeldRows.{is_triple_of};
 ghost use Rattle.bank_policy.specs.Tests.{current};
 ghost use Rattle.bank_terms.specs.declared.procedure.Procedure.TheVariants as procedure;
 ghost use Rattle.sql_policy.specs.HeldRows.{held_in};
-ghost use Rattle.sql_schema.specs.Steps.{FindsHeldInside, LeavesNone, Stays, WasOpen};
+ghost use Rattle.sql_schema.specs.Steps.{FindsHeldInside, Reads, Step};
 ghost use Rattle.store_sql.specs.LeastShown.{is_held_above};
 
 use crate::least_reads::least_of;
@@ -27,11 +27,8 @@ pub fn accounts_triples<S: Alter>(
     user: u32,
     moment: u64,
 ) -> Result<Vec<HeldRow>, Fault>
-    ensures same_reference { tx.new.conn.ghost_name ≡ tx.old.conn.ghost_name }
+    ensures reads { Reads S.Store tx.old.conn tx.new.conn result }
     ensures found { FindsHeldInside (state S.Store tx.old.conn.now) (state S.Store tx.new.conn.now) result (λ s rows. rows.items ≡ current moment (map (held_in s) (filter (is_triple_of user procedure.Accounts) s.triples))) }
-    ensures steps { Stays (state S.Store tx.old.conn.now) (state S.Store tx.new.conn.now) result }
-    ensures open { WasOpen (state S.Store tx.old.conn.now) (state S.Store tx.new.conn.now) result }
-    ensures survives { LeavesNone (state S.Store tx.old.conn.now) (state S.Store tx.new.conn.now) }
 {
     let mut held = sql_policy::triples_of(alloc, tx, user, Procedure::Accounts)?;
     keep_current(&mut held, moment);
@@ -47,11 +44,9 @@ pub fn held_above<S: Alter>(
     after: u32,
     count: u32,
 ) -> Result<Vec<AccountRecord>, Fault>
-    ensures same_reference { tx.new.conn.ghost_name ≡ tx.old.conn.ghost_name }
+    ensures step { Step S.Store tx.old.conn tx.new.conn (λ s. s) result }
     ensures found { FindsHeldInside (state S.Store tx.old.conn.now) (state S.Store tx.new.conn.now) result (λ s rows. rows.items ≡ take count (filter (is_held_above held.now after) s.accounts)) }
-    ensures steps { Stays (state S.Store tx.old.conn.now) (state S.Store tx.new.conn.now) result }
     ensures open { HasCleanDisk (state S.Store tx.new.conn.now) → IsTrue (state S.Store tx.new.conn.now).is_open → IsTrue (state S.Store tx.old.conn.now).is_open }
-    ensures survives { LeavesNone (state S.Store tx.old.conn.now) (state S.Store tx.new.conn.now) }
 {
     let mut rows = Vec::new(alloc);
     let mut last = after;

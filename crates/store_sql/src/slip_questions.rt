@@ -59,9 +59,6 @@ impl Question for SlipsOf {
     ghost says = { λ asked w n. n ≡ slip_count asked.user w.slips };
 
     fn ask<S: Alter>(&self, alloc: Global, tx: &mut Transaction<'_, S>) -> Result<u64, Fault> {
-        match sql_releases::slip_count_of(tx, self.user) {
-            Ok(found) => Ok(slips_in(found)),
-            Err(fault) => Err(fault),
-        }
+        Ok(slips_in(sql_releases::slip_count_of(tx, self.user)?))
     }
 }

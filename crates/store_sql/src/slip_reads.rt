@@ -1,4 +1,4 @@
-//! Reads of a slip, and of how many slips a user has: each asks its question of the tables.
+//! Reads of a slip, and of how many slips a user has: each asks its question of the tables, but of a number that is known.
 
 use crate::slip_questions::{SlipOf, SlipsOf};
 use crate::sql_store::SqlStore;
@@ -14,6 +14,9 @@ impl<S: Alter> SlipReads for SqlStore<S> {
     }
 
     fn slips(&mut self, alloc: Global, user: u32) -> Result<u64, Fault> {
+        if let Some(slips) = self.known_slips(user) {
+            return Ok(slips);
+        }
         self.ask(alloc, &SlipsOf { user })
     }
 }

@@ -1,7 +1,7 @@
 //! Counts how often a store is asked for rows.
 
 use money::Fault;
-use store_rows::Stands;
+use store_rows::StoreState;
 use test_counter::{Read, Watch};
 
 /// How often a store was asked for the triples of a user, for the relations of a procedure, and for any rows.
@@ -31,7 +31,7 @@ impl Counting {
     }
 }
 
-impl Stands for Counting {
+impl StoreState for Counting {
     ghost use Rattle.std.specs.Prelude.{⊤, false};
 
     ghost status = { λ _. record {

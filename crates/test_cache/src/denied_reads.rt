@@ -7,7 +7,7 @@ use decide::{Decision, Op, PolicyOp, Reply, Rule, Who, carry_out, decide, decide
 use policy_commands::UserKey;
 use std::alloc::Global;
 use std::process::Abort;
-use store_rows::{Bank, Stands};
+use store_rows::{Bank, StoreState};
 use test_counter::Watched;
 
 /// The sample in lists whose reads are counted.

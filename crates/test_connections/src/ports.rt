@@ -1,7 +1,8 @@
 //! A port that is bound and announced, one that cannot be announced, and the one address at which a port is bound.
 use crate::clients::{LAST_OPENING, got, listening, opened};
+use counter_api::Asking;
 use counter_clocks::{Fixed, Moment};
-use counter_connections::{PortFault, serve_port_behind_cache};
+use counter_connections::{CountedPort, PortFault, serve_port_with_cache};
 use money::Tallied;
 use sample_service::{SampleBadges, listed_sample};
 use std::io;
@@ -18,20 +19,15 @@ fn ended<W: Write>(
 ) -> Result<Result<(), PortFault>, Fail> {
     let alloc = rt.alloc();
     let store = listed_sample(alloc)?;
-    let mut clock = Fixed {
-        moment: Moment::cut(700),
+    let asking = Asking {
+        gate: SampleBadges,
+        moments: Fixed {
+            moment: Moment::cut(700),
+        },
     };
-    let served = serve_port_behind_cache(
-        rt,
-        alloc,
-        port,
-        store,
-        &SampleBadges,
-        &mut clock,
-        requests,
-        output,
-    );
-    Ok(served.1)
+    let at = CountedPort { port, requests };
+    let (_, _, _, served) = serve_port_with_cache(rt, alloc, at, store, asking, output);
+    Ok(served)
 }
 
 #[test]

@@ -1,8 +1,9 @@
 //! The sample bank, and what a bank answers to messages.
 
 use crate::runtime::Runtime;
+use crate::shared::Shared;
 use crate::sinks::{Sink, whole_sink};
-use counter_api::{ServeFault, Served, serve};
+use counter_api::{Asking, Counter, ServeFault, Served, serve};
 use counter_clocks::{Fixed, Moment};
 use money::Tallied;
 use sample_bank::sample_world;
@@ -47,15 +48,17 @@ fn answer_at<S: Store>(
     mut writer: Tallied<Sink>,
 ) -> Answer {
     let moment = Moment::new(moment).expect(rt, "a moment");
-    let end = serve(
-        rt.alloc(),
-        &mut Tallied::new(input),
-        &mut writer,
-        bank,
-        &SampleBadges,
-        &mut Fixed { moment },
-        10,
-    );
+    let shared = Shared {
+        store: &mut bank.store,
+    };
+    let asking = Asking {
+        gate: SampleBadges,
+        moments: Fixed { moment },
+    };
+    let end = match Counter::new(rt.alloc(), shared, asking) {
+        Ok(mut counter) => serve(&mut counter, &mut Tallied::new(input), &mut writer, 10),
+        Err(_) => Err(ServeFault::Memory),
+    };
     Answer {
         end,
         failures: writer.failures(),

@@ -10,7 +10,7 @@ use std::alloc::Global;
 use std::rc::RcSlice;
 use store_rows::{
     BookReads, DrawerRecord, ListStore, PolicyKey, PolicyReads, PolicyRow, ReportReads, SlipReads,
-    Stands, Store, UserRecord,
+    Store, StoreState, UserRecord,
 };
 
 /// Which rows are read.
@@ -25,7 +25,7 @@ pub enum Read {
 }
 
 /// Sees each call of a store before it is carried out, and may have it fail. It represents any World.
-pub trait Watch: Stands {
+pub trait Watch: StoreState {
     ghost use Rattle.std.specs.Prelude.{⊤};
     ghost use Rattle.store_rows.specs.Status.{ReadsRow};
 
@@ -65,7 +65,7 @@ impl<W: Watch> Watched<W> {
     }
 }
 
-impl<W: Watch> Stands for Watched<W> {
+impl<W: Watch> StoreState for Watched<W> {
     ghost use Rattle.std.specs.Prelude.{◌+◌, min};
     ghost use Rattle.money.specs.Counted.{full_count};
     ghost use Rattle.store_rows.specs.ListStore.{list_status};

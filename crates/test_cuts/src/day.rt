@@ -1,397 +1,73 @@
-//! A day at the sample's counter, and the replies to its messages.
+//! A day at the sample's counter, and messages whose reply ends the connection.
 
-use test_counter::{Runtime, reply_bytes};
+use test_counter::{Runtime, listed_bank, reply};
 
-/// A message, and the reply to it.
-#[derive(Clone, Copy)]
-struct Exchange {
-    badge: &'static str,
-    session: u32,
-    /// 0 for none.
-    slip: u32,
-    /// The method and the path.
-    asks: &'static str,
-    body: &'static str,
-    status: &'static str,
-    reply: Reply,
-}
-
-/// The body of a reply.
-#[derive(Clone, Copy)]
-enum Reply {
-    Json(&'static str),
-    Text(&'static str),
-    /// The head alone of what this would be.
-    Head(&'static str),
-}
-
-/// The accounts that Tess may list.
-const ACCOUNTS: &str = concat!(
-    "ACCOUNTS AFTER         0 LINES     2\n",
-    "      101         1         500.00\n",
-    "      102         1           0.00\n",
-);
-
-/// The proof of branch 1, as it opens.
-const PROOF: &str = concat!(
-    "PROOF BRANCH         1 DAY      1\n",
-    "TELLER        11         600.00         400.00    7\n",
-    "TELLER        12           0.00          50.00    8\n",
-    "TELLERS TOTAL             600.00\n",
-    "BRANCH BALANCE            600.00\n",
-    "HISTORY TOTAL               0.00\n",
-    "OPENING BALANCE           600.00\n",
-    "VAULT CASH                550.00\n",
-    "DRAWER CASH               450.00\n",
-    "OPENING CASH             1000.00\n",
-    "CASH ENTRIES                0.00\n",
-    "DIFFERENCES                 0.00\n",
-);
-
-/// The statement of account 101 after the post.
-const STATEMENT: &str = concat!(
-    "STATEMENT ACCOUNT       101 FROM         1 LINES     1\n",
-    "        1         1         1        11         700    25.00         525.00\n",
-);
-
-/// The messages, in their order.
-const DAY: [Exchange; 37] = [
-    Exchange {
-        badge: "tess",
-        session: 1,
-        slip: 0,
-        asks: "POST /do/accounts",
-        body: r#"{"after":0,"count":10}"#,
-        status: "200 OK",
-        reply: Reply::Text(ACCOUNTS),
-    },
-    Exchange {
-        badge: "sue",
-        session: 1,
-        slip: 0,
-        asks: "POST /do/proof",
-        body: r#"{"branch":1}"#,
-        status: "200 OK",
-        reply: Reply::Text(PROOF),
-    },
-    Exchange {
-        badge: "tess",
-        session: 1,
-        slip: 0,
-        asks: "POST /do/post",
-        body: r#"{"account":101,"branch":1,"delta":2500,"teller":11}"#,
-        status: "200 OK",
-        reply: Reply::Json(r#"{"balance":52500,"branch":1,"entry":1}"#),
-    },
-    Exchange {
-        badge: "tess",
-        session: 1,
-        slip: 0,
-        asks: "POST /do/statement",
-        body: r#"{"account":101,"count":10,"start":1}"#,
-        status: "200 OK",
-        reply: Reply::Text(STATEMENT),
-    },
-    Exchange {
-        badge: "tom",
-        session: 1,
-        slip: 0,
-        asks: "POST /do/transfer",
-        body: r#"{"amount":20000,"branch":1,"source":101,"target":102,"teller":12}"#,
-        status: "200 OK",
-        reply: Reply::Json(r#"{"branch":1,"first":2,"second":3,"source":32500,"target":20000}"#),
-    },
-    Exchange {
-        badge: "tess",
-        session: 1,
-        slip: 0,
-        asks: "POST /do/balance",
-        body: r#"{"account":101}"#,
-        status: "200 OK",
-        reply: Reply::Json(r#"{"balance":32500}"#),
-    },
-    Exchange {
-        badge: "tess",
-        session: 1,
-        slip: 0,
-        asks: "POST /do/correct",
-        body: r#"{"account":101,"branch":1,"delta":2500,"entry":1,"other":0,"teller":11}"#,
-        status: "403 Forbidden",
-        reply: Reply::Json(r#"{"name":"second person","rule":9}"#),
-    },
-    Exchange {
-        badge: "tess",
-        session: 1,
-        slip: 0,
-        asks: "POST /do/move-cash",
-        body: r#"{"amount":5000,"branch":1,"source":11,"target":12}"#,
-        status: "200 OK",
-        reply: Reply::Json(r#"{"moved":5000,"source":37500,"target":10000}"#),
-    },
-    Exchange {
-        badge: "tess",
-        session: 1,
-        slip: 0,
-        asks: "POST /do/drawer-off",
-        body: r#"{"branch":1,"counted":37500,"teller":11}"#,
-        status: "200 OK",
-        reply: Reply::Json(r#"{"difference":0,"teller":11,"vault":92500}"#),
-    },
-    Exchange {
-        badge: "tess",
-        session: 1,
-        slip: 0,
-        asks: "POST /do/drawer-on",
-        body: r#"{"branch":1,"cash":30000,"teller":11}"#,
-        status: "200 OK",
-        reply: Reply::Json(r#"{"cash":30000,"teller":11,"vault":62500}"#),
-    },
-    Exchange {
-        badge: "sue",
-        session: 1,
-        slip: 0,
-        asks: "POST /do/new-account",
-        body: r#"{"account":103,"branch":1,"floor":0}"#,
-        status: "200 OK",
-        reply: Reply::Json(r#"{"account":103,"branch":1}"#),
-    },
-    Exchange {
-        badge: "sue",
-        session: 1,
-        slip: 0,
-        asks: "POST /do/release",
-        body: r#"{"beneficiary":8,"operation":{"account":101,"branch":1,"delta":60000,"procedure":"post","teller":12}}"#,
-        status: "200 OK",
-        reply: Reply::Json(r#"{"beneficiary":8,"release":1}"#),
-    },
-    Exchange {
-        badge: "sue",
-        session: 1,
-        slip: 0,
-        asks: "POST /do/close-day",
-        body: r#"{"branch":1}"#,
-        status: "409 Conflict",
-        reply: Reply::Json(r#"{"name":"day","rule":15}"#),
-    },
-    Exchange {
-        badge: "tom",
-        session: 1,
-        slip: 0,
-        asks: "POST /do/balance",
-        body: r#"{"account":101}"#,
-        status: "403 Forbidden",
-        reply: Reply::Json(r#"{"name":"no triple","rule":3}"#),
-    },
-    Exchange {
-        badge: "tom",
-        session: 1,
-        slip: 0,
-        asks: "POST /do/post",
-        body: r#"{"account":101,"branch":1,"delta":60000,"teller":12}"#,
-        status: "403 Forbidden",
-        reply: Reply::Json(r#"{"name":"limit","rule":4}"#),
-    },
-    Exchange {
-        badge: "tess",
-        session: 9,
-        slip: 0,
-        asks: "POST /do/balance",
-        body: r#"{"account":101}"#,
-        status: "403 Forbidden",
-        reply: Reply::Json(r#"{"name":"identity","rule":1}"#),
-    },
-    Exchange {
-        badge: "tess",
-        session: 1,
-        slip: 0,
-        asks: "GET /policy",
-        body: r#""#,
-        status: "403 Forbidden",
-        reply: Reply::Json(r#"{"name":"officer","rule":17}"#),
-    },
-    Exchange {
-        badge: "tess",
-        session: 1,
-        slip: 0,
-        asks: "POST /do/nothing",
-        body: r#"{"account":101}"#,
-        status: "404 Not Found",
-        reply: Reply::Json(r#"{"fault":"M5"}"#),
-    },
-    Exchange {
-        badge: "tess",
-        session: 1,
-        slip: 0,
-        asks: "POST /do/balance",
-        body: r#"{"account":"101"}"#,
-        status: "422 Unprocessable Entity",
-        reply: Reply::Json(r#"{"fault":"M6"}"#),
-    },
-    Exchange {
-        badge: "carl",
-        session: 1,
-        slip: 0,
-        asks: "POST /policy/define-set",
-        body: r#"{"members":[[1,101,101]],"set":6}"#,
-        status: "200 OK",
-        reply: Reply::Json(r#"{"done":"define-set"}"#),
-    },
-    Exchange {
-        badge: "carl",
-        session: 1,
-        slip: 0,
-        asks: "POST /policy/certify",
-        body: r#"{"procedure":"correct","set":6}"#,
-        status: "200 OK",
-        reply: Reply::Json(r#"{"done":"certify"}"#),
-    },
-    Exchange {
-        badge: "carl",
-        session: 1,
-        slip: 0,
-        asks: "POST /policy/grant",
-        body: r#"{"limit":0,"procedure":"balance","set":2,"user":9}"#,
-        status: "200 OK",
-        reply: Reply::Json(r#"{"done":"grant"}"#),
-    },
-    Exchange {
-        badge: "carl",
-        session: 1,
-        slip: 0,
-        asks: "POST /policy/revoke",
-        body: r#"{"procedure":"balance","set":2,"user":9}"#,
-        status: "200 OK",
-        reply: Reply::Json(r#"{"done":"revoke"}"#),
-    },
-    Exchange {
-        badge: "carl",
-        session: 1,
-        slip: 0,
-        asks: "POST /policy/grant",
-        body: r#"{"first":0,"last":699,"limit":0,"procedure":"balance","set":2,"user":9}"#,
-        status: "200 OK",
-        reply: Reply::Json(r#"{"done":"grant"}"#),
-    },
-    Exchange {
-        badge: "carl",
-        session: 1,
-        slip: 0,
-        asks: "POST /policy/revoke",
-        body: r#"{"procedure":"balance","set":2,"user":9}"#,
-        status: "200 OK",
-        reply: Reply::Json(r#"{"done":"revoke"}"#),
-    },
-    Exchange {
-        badge: "carl",
-        session: 1,
-        slip: 0,
-        asks: "POST /policy/withdraw",
-        body: r#"{"procedure":"correct","set":6}"#,
-        status: "200 OK",
-        reply: Reply::Json(r#"{"done":"withdraw"}"#),
-    },
-    Exchange {
-        badge: "olga",
-        session: 1,
-        slip: 0,
-        asks: "POST /policy/enrol",
-        body: r#"{"name":"Ann","officer":false,"user":10}"#,
-        status: "200 OK",
-        reply: Reply::Json(r#"{"done":"enrol"}"#),
-    },
-    Exchange {
-        badge: "olga",
-        session: 1,
-        slip: 0,
-        asks: "POST /policy/appoint",
-        body: r#"{"procedure":"balance","user":10}"#,
-        status: "200 OK",
-        reply: Reply::Json(r#"{"done":"appoint"}"#),
-    },
-    Exchange {
-        badge: "olga",
-        session: 1,
-        slip: 0,
-        asks: "POST /policy/dismiss",
-        body: r#"{"procedure":"balance","user":10}"#,
-        status: "200 OK",
-        reply: Reply::Json(r#"{"done":"dismiss"}"#),
-    },
-    Exchange {
-        badge: "olga",
-        session: 1,
-        slip: 0,
-        asks: "POST /policy/suspend",
-        body: r#"{"user":10}"#,
-        status: "200 OK",
-        reply: Reply::Json(r#"{"done":"suspend"}"#),
-    },
-    Exchange {
-        badge: "olga",
-        session: 1,
-        slip: 0,
-        asks: "POST /policy/restore",
-        body: r#"{"user":10}"#,
-        status: "200 OK",
-        reply: Reply::Json(r#"{"done":"restore"}"#),
-    },
-    Exchange {
-        badge: "tess",
-        session: 1,
-        slip: 5,
-        asks: "POST /do/post",
-        body: r#"{"account":101,"branch":1,"delta":2500,"teller":11}"#,
-        status: "200 OK",
-        reply: Reply::Json(r#"{"balance":35000,"branch":1,"entry":4}"#),
-    },
-    Exchange {
-        badge: "tess",
-        session: 1,
-        slip: 5,
-        asks: "POST /do/post",
-        body: r#"{"account":101,"branch":1,"delta":2500,"teller":11}"#,
-        status: "200 OK",
-        reply: Reply::Json(r#"{"balance":35000,"branch":1,"entry":4}"#),
-    },
-    Exchange {
-        badge: "tess",
-        session: 1,
-        slip: 5,
-        asks: "POST /do/post",
-        body: r#"{"account":101,"branch":1,"delta":2501,"teller":11}"#,
-        status: "409 Conflict",
-        reply: Reply::Json(r#"{"name":"slip","rule":22}"#),
-    },
-    Exchange {
-        badge: "tess",
-        session: 1,
-        slip: 0,
-        asks: "HEAD /do/post",
-        body: r#"{"account":101,"branch":1,"delta":2500,"teller":11}"#,
-        status: "404 Not Found",
-        reply: Reply::Head(r#"{"fault":"M5"}"#),
-    },
-    Exchange {
-        badge: "sue",
-        session: 1,
-        slip: 0,
-        asks: "POST /end",
-        body: r#""#,
-        status: "200 OK",
-        reply: Reply::Json(r#"{"ended":1}"#),
-    },
-    Exchange {
-        badge: "sue",
-        session: 1,
-        slip: 0,
-        asks: "POST /session",
-        body: r#""#,
-        status: "200 OK",
-        reply: Reply::Json(r#"{"session":2}"#),
-    },
+/// The messages of the day, in their order: badge, session, slip 5 or 0 for none, method, path and body.
+const DAY: [&str; 37] = [
+    r#"tess 1 0 POST /do/accounts {"after":0,"count":10}"#,
+    r#"sue 1 0 POST /do/proof {"branch":1}"#,
+    r#"tess 1 0 POST /do/post {"account":101,"branch":1,"delta":2500,"teller":11}"#,
+    r#"tess 1 0 POST /do/statement {"account":101,"count":10,"start":1}"#,
+    r#"tom 1 0 POST /do/transfer {"amount":20000,"branch":1,"source":101,"target":102,"teller":12}"#,
+    r#"tess 1 0 POST /do/balance {"account":101}"#,
+    r#"tess 1 0 POST /do/correct {"account":101,"branch":1,"delta":2500,"entry":1,"other":0,"teller":11}"#,
+    r#"tess 1 0 POST /do/move-cash {"amount":5000,"branch":1,"source":11,"target":12}"#,
+    r#"tess 1 0 POST /do/drawer-off {"branch":1,"counted":37500,"teller":11}"#,
+    r#"tess 1 0 POST /do/drawer-on {"branch":1,"cash":30000,"teller":11}"#,
+    r#"sue 1 0 POST /do/new-account {"account":103,"branch":1,"floor":0}"#,
+    r#"sue 1 0 POST /do/release {"beneficiary":8,"operation":{"account":101,"branch":1,"delta":60000,"procedure":"post","teller":12}}"#,
+    r#"sue 1 0 POST /do/close-day {"branch":1}"#,
+    r#"tom 1 0 POST /do/balance {"account":101}"#,
+    r#"tom 1 0 POST /do/post {"account":101,"branch":1,"delta":60000,"teller":12}"#,
+    r#"tess 9 0 POST /do/balance {"account":101}"#,
+    "tess 1 0 GET /policy",
+    r#"tess 1 0 POST /do/nothing {"account":101}"#,
+    r#"tess 1 0 POST /do/balance {"account":"101"}"#,
+    r#"carl 1 0 POST /policy/define-set {"members":[[1,101,101]],"set":6}"#,
+    r#"carl 1 0 POST /policy/certify {"procedure":"correct","set":6}"#,
+    r#"carl 1 0 POST /policy/grant {"limit":0,"procedure":"balance","set":2,"user":9}"#,
+    r#"carl 1 0 POST /policy/revoke {"procedure":"balance","set":2,"user":9}"#,
+    r#"carl 1 0 POST /policy/grant {"first":0,"last":699,"limit":0,"procedure":"balance","set":2,"user":9}"#,
+    r#"carl 1 0 POST /policy/revoke {"procedure":"balance","set":2,"user":9}"#,
+    r#"carl 1 0 POST /policy/withdraw {"procedure":"correct","set":6}"#,
+    r#"olga 1 0 POST /policy/enrol {"name":"Ann","officer":false,"user":10}"#,
+    r#"olga 1 0 POST /policy/appoint {"procedure":"balance","user":10}"#,
+    r#"olga 1 0 POST /policy/dismiss {"procedure":"balance","user":10}"#,
+    r#"olga 1 0 POST /policy/suspend {"user":10}"#,
+    r#"olga 1 0 POST /policy/restore {"user":10}"#,
+    r#"tess 1 5 POST /do/post {"account":101,"branch":1,"delta":2500,"teller":11}"#,
+    r#"tess 1 5 POST /do/post {"account":101,"branch":1,"delta":2500,"teller":11}"#,
+    r#"tess 1 5 POST /do/post {"account":101,"branch":1,"delta":2501,"teller":11}"#,
+    r#"tess 1 0 HEAD /do/post {"account":101,"branch":1,"delta":2500,"teller":11}"#,
+    "sue 1 0 POST /end",
+    "sue 1 0 POST /session",
 ];
 
-/// The bytes of a stream of messages, and those of the replies to them.
+/// How many of these are carried out.
+const DONE: usize = 27;
+
+/// Messages after which the connection ends. The fault of one shows at its last byte, if it has one.
+const ENDINGS: [&[u8]; 7] = [
+    // no head
+    b"hello\r\n",
+    // no Host
+    b"POST /session HTTP/1.1\r\nBank-Badge: tess\r\n\r\n",
+    // two lengths that agree
+    b"POST /session HTTP/1.1\r\nHost: bank\r\nContent-Length: 0\r\nContent-Length: 0\r\n\r\n",
+    // a body that is too long
+    b"POST /do/post HTTP/1.1\r\nHost: bank\r\nContent-Length: 1025\r\n\r\n",
+    // an encoding
+    b"POST /do/post HTTP/1.1\r\nHost: bank\r\nTransfer-Encoding: chunked\r\n\r\n",
+    // HTTP/1.0
+    b"POST /session HTTP/1.0\r\nBank-Badge: tess\r\n\r\n",
+    // its own wish
+    b"POST /session HTTP/1.1\r\nHost: bank\r\nBank-Badge: tess\r\nConnection: close\r\n\r\n",
+];
+
+/// What follows such a message, and is not looked at on its connection: Tess opens a session.
+const NEXT: &[u8] = b"POST /session HTTP/1.1\r\nHost: bank\r\nBank-Badge: tess\r\n\r\n";
+
+/// The bytes of a stream of messages, and those of the replies that each gets on a connection of its own, one after another.
 #[derive(Drop)]
 pub struct Stream {
     /// The messages.
@@ -402,97 +78,102 @@ pub struct Stream {
     pub replies: Vec<u8>,
     /// Where the reply to each message ends.
     pub reply_ends: Vec<usize>,
+    /// How many of the messages are answered on one connection.
+    pub answered: usize,
+    /// How many bytes a read gives at most, where reads fail.
+    pub sizes: [usize; 2],
 }
 
-impl Exchange {
-    /// The bytes of the message.
-    fn message(&self, rt: &impl Runtime) -> Vec<u8> {
-        let Exchange {
-            badge,
-            session,
-            slip,
-            asks,
-            body,
-            status: _,
-            reply: _,
-        } = *self;
-        let length = body.len();
-        let message = if slip == 0 {
-            format!(in rt.alloc();
-                "{asks} HTTP/1.1\r\nHost: bank\r\nBank-Badge: {badge}\r\nBank-Session: {session}\r\nContent-Length: {length}\r\n\r\n{body}"
-            )
-        } else {
-            format!(in rt.alloc();
-                "{asks} HTTP/1.1\r\nHost: bank\r\nBank-Badge: {badge}\r\nBank-Session: {session}\r\nBank-Slip: {slip}\r\nContent-Length: {length}\r\n\r\n{body}"
-            )
-        };
-        message.expect(rt, "memory").into_bytes()
-    }
-
-    /// The bytes of the reply.
-    fn reply(&self, rt: &impl Runtime) -> Vec<u8> {
-        match self.reply {
-            Reply::Json(body) => reply_bytes(rt, self.status, "application/json", body),
-            Reply::Text(body) => reply_bytes(rt, self.status, "text/plain", body),
-            Reply::Head(body) => {
-                let mut reply = reply_bytes(rt, self.status, "application/json", body);
-                reply.truncate(reply.len().saturating_sub(body.len()));
-                reply
-            }
-        }
-    }
+/// The bytes of a message of the day.
+fn message_of(rt: &impl Runtime, text: &str) -> String {
+    let mut words = text.split(' ');
+    let badge = words.next().unwrap_or("");
+    let session = words.next().unwrap_or("");
+    let slip = match words.next().unwrap_or("") {
+        "0" => "",
+        _ => "Bank-Slip: 5\r\n",
+    };
+    let method = words.next().unwrap_or("");
+    let path = words.next().unwrap_or("");
+    let body = words.next().unwrap_or("");
+    let length = body.len();
+    let message = format!(in rt.alloc();
+        "{method} {path} HTTP/1.1\r\nHost: bank\r\nBank-Badge: {badge}\r\nBank-Session: {session}\r\n{slip}Content-Length: {length}\r\n\r\n{body}"
+    );
+    message.expect(rt, "memory")
 }
 
-/// The day in bytes.
-pub fn day(rt: &impl Runtime) -> Stream {
+/// No message yet; of those that are added, the first n are answered on one connection.
+fn empty(rt: &impl Runtime, n: usize, sizes: [usize; 2]) -> Stream {
     let alloc = rt.alloc();
-    let mut stream = Stream {
+    Stream {
         input: Vec::new(alloc),
         ends: Vec::new(alloc),
         replies: Vec::new(alloc),
         reply_ends: Vec::new(alloc),
-    };
-    for exchange in DAY.iter() {
-        let message = exchange.message(rt);
-        let reply = exchange.reply(rt);
-        stream
-            .input
-            .extend_from_slice(&message)
-            .expect(rt, "memory");
-        stream
-            .replies
-            .extend_from_slice(&reply)
-            .expect(rt, "memory");
-        let (end, reply_end) = (stream.input.len(), stream.replies.len());
-        stream.ends.push(end).expect(rt, "memory");
-        stream.reply_ends.push(reply_end).expect(rt, "memory");
+        answered: n,
+        sizes,
     }
+}
+
+/// The day. Of its reads some end inside a message, and some hold several.
+fn day(rt: &impl Runtime) -> Stream {
+    let mut stream = empty(rt, DAY.len(), [61, 333]);
+    let mut bank = listed_bank(rt);
+    let mut done = 0usize;
+    for text in DAY.iter() {
+        let message = message_of(rt, text);
+        let reply = reply(rt, &mut bank, message.as_bytes());
+        done = done.saturating_add(usize::from(reply.starts_with(b"HTTP/1.1 200 OK\r\n")));
+        stream.add(rt, message.as_bytes(), &reply);
+    }
+    assert!(rt; done == DONE, "{done}");
     stream
 }
 
+/// The day, and each message after which the connection ends, with one that follows.
+pub fn streams(rt: &impl Runtime) -> Vec<Stream> {
+    let mut streams = Vec::new(rt.alloc());
+    streams.push(day(rt)).expect(rt, "memory");
+    for ending in ENDINGS.iter() {
+        let mut stream = empty(rt, 1, [1, 7]);
+        let mut bank = listed_bank(rt);
+        for message in [*ending, NEXT] {
+            let reply = reply(rt, &mut bank, message);
+            stream.add(rt, message, &reply);
+        }
+        streams.push(stream).expect(rt, "memory");
+    }
+    streams
+}
+
 impl Stream {
-    /// How many messages are whole in the first so many bytes.
-    pub fn whole(&self, len: usize) -> usize {
-        self.ends.iter().filter(|end| **end <= len).count()
+    /// Adds a message, and the reply to it.
+    fn add(&mut self, rt: &impl Runtime, message: &[u8], reply: &[u8]) {
+        self.input.extend_from_slice(message).expect(rt, "memory");
+        self.replies.extend_from_slice(reply).expect(rt, "memory");
+        self.ends.push(self.input.len()).expect(rt, "memory");
+        let end = self.replies.len();
+        self.reply_ends.push(end).expect(rt, "memory");
     }
 
-    /// Where the message after the first so many begins.
-    pub fn begin_of(&self, messages: usize) -> usize {
-        begin(&self.ends, messages)
+    /// How many messages are whole in the first n bytes.
+    pub fn whole(&self, n: usize) -> usize {
+        self.ends.iter().filter(|end| **end <= n).count()
     }
 
-    /// The replies to the first so many messages.
-    pub fn replies_to(&self, messages: usize) -> &[u8] {
-        &self.replies[..begin(&self.reply_ends, messages)]
+    /// Where the message after the first n begins.
+    pub fn begin_of(&self, n: usize) -> usize {
+        begin(&self.ends, n)
     }
 
-    /// The replies to the messages after them.
-    pub fn replies_after(&self, messages: usize) -> &[u8] {
-        &self.replies[begin(&self.reply_ends, messages)..]
+    /// The replies to the messages after the first n, up to this number.
+    pub fn replies(&self, n: usize, number: usize) -> &[u8] {
+        &self.replies[begin(&self.reply_ends, n)..begin(&self.reply_ends, number)]
     }
 }
 
-/// Where the piece after the first so many begins.
-fn begin(ends: &[usize], pieces: usize) -> usize {
-    if pieces == 0 { 0 } else { ends[pieces - 1] }
+/// Where the piece after the first n begins.
+fn begin(ends: &[usize], n: usize) -> usize {
+    if n == 0 { 0 } else { ends[n - 1] }
 }

@@ -1,12 +1,12 @@
 //! A run over a bank in lists.
 
-use counter_api::{ServeFault, Served, serve};
+use counter_api::{Asking, Counter, ServeFault, Served, serve};
 use counter_clocks::{Fixed, Moment};
 use money::Tallied;
 use sample_service::SampleBadges;
 use std::io::{Read, Write};
 use store_rows::{Bank, ListStore};
-use test_counter::Runtime;
+use test_counter::{Runtime, Shared};
 
 /// More messages than any stream of these tests has.
 const MOST: u32 = 1_000;
@@ -19,13 +19,20 @@ pub fn run<R: Read, W: Write>(
     writer: &mut Tallied<W>,
 ) -> Result<Served, ServeFault> {
     let moment = Moment::new(700).expect(rt, "a moment");
-    let clock = &mut Fixed { moment };
-    serve(rt.alloc(), reader, writer, bank, &SampleBadges, clock, MOST)
+    let shared = Shared {
+        store: &mut bank.store,
+    };
+    let asking = Asking {
+        gate: SampleBadges,
+        moments: Fixed { moment },
+    };
+    match Counter::new(rt.alloc(), shared, asking) {
+        Ok(mut counter) => serve(&mut counter, reader, writer, MOST),
+        Err(_) => Err(ServeFault::Memory),
+    }
 }
 
-/// How a run ends that answers so many messages.
-pub fn served(messages: usize) -> Result<Served, ServeFault> {
-    Ok(Served {
-        messages: messages as u32,
-    })
+/// How a run ends that answers n messages.
+pub fn served(n: usize) -> Result<Served, ServeFault> {
+    Ok(Served { messages: n as u32 })
 }

@@ -1,7 +1,7 @@
 //! Lists of badges in files. No clause ties what is read to the file of a path, so what is printed of the badges is
 //! compared with the rows of the list that was written there: each of them, and no others.
 
-use cli_file::{ActionFault, read_badge_list};
+use cli_file::{ActionFault, MachineLists, read_badge_list};
 use list_opening::read_badges;
 use std::fs;
 use std::test::Fail;
@@ -20,7 +20,10 @@ fn badges_of_a_file_are_its_rows_and_no_others(rt: HostRuntime) -> Result<(), Fa
         ),
     ] {
         fs::write(&rt, path, text)?;
-        let printed = format!(in rt.alloc(); "{:?}", read_badge_list(&rt, path)?)?;
+        let printed = format!(in rt.alloc();
+            "{:?}",
+            read_badge_list(rt.alloc(), &MachineLists { rt: &rt }, path)?
+        )?;
         let due = format!(in rt.alloc(); "Badges {{ badges: {rows} }}")?;
         assert_eq!(rt; printed.as_str(), due.as_str());
         let stated = format!(in rt.alloc(); "{:?}", read_badges(rt.alloc(), text)?)?;
@@ -41,9 +44,14 @@ fn files_of_other_badges_are_refused(rt: HostRuntime) -> Result<(), Fail> {
     ] {
         fs::write(&rt, path, text)?;
         let due = ActionFault::Badge { list: path, row };
-        assert!(rt; read_badge_list(&rt, path).err() == Some(due));
+        assert!(rt;
+            read_badge_list(rt.alloc(), &MachineLists { rt: &rt }, path).err() == Some(due)
+        );
     }
     fs::remove_file(&rt, path)?;
-    assert!(rt; read_badge_list(&rt, path).err() == Some(ActionFault::NotRead));
+    assert!(rt;
+        read_badge_list(rt.alloc(), &MachineLists { rt: &rt }, path).err()
+            == Some(ActionFault::NotRead)
+    );
     Ok(())
 }

@@ -1,6 +1,6 @@
 //! Tests alone: opening lists and lists of badges, in files, too. They show the World that the lists of the folder sample/
-//! state, which record is named where one is bad, the moments of triples, how comma-separated values may be
-//! written, and what is printed of a fault. Nothing here is proved or used by a program.
+//! state, which record is named where one is bad, how comma-separated values may be written, and what is printed of
+//! a fault. Nothing here is proved or used by a program.
 #![tactic(auto)]
 
 #[cfg(test)]
@@ -11,8 +11,6 @@ mod badge_files;
 mod badges;
 #[cfg(test)]
 mod forms;
-#[cfg(test)]
-mod moments;
 #[cfg(test)]
 mod sample;
 #[cfg(test)]

@@ -1,8 +1,9 @@
-//! Connections in memory, the door at which they come, and a system that reports what it is given, round by round.
-use counter_loop::{Door, Readiness, Ready, TwoWay};
-use mio::{Poll, Registry};
+//! Connections in memory, what accepts them, and a system that reports what it is given, round by round.
+use counter_door::{Accepts, Readiness, Ready, Socket};
+use mio::event::Source;
+use mio::{Interest, Poll, Registry, Token};
 use std::io;
-use std::io::ErrorKind;
+use std::io::{ErrorKind, Read, Write};
 use std::time::{Duration, Instant};
 
 /// A connection: what is at hand of it, read by read, where `None` is nothing at hand; after the last of them its client has
@@ -14,12 +15,8 @@ pub(crate) struct Line<'a> {
     pub(crate) got: &'a mut Vec<u8>,
 }
 
-impl<'a> TwoWay for Line<'a> {
-    fn register(&mut self, _registry: &Registry, _key: usize) -> io::Result<()> {
-        Ok(())
-    }
-
-    fn receive(&mut self, buf: &mut [u8]) -> io::Result<usize> {
+impl<'a> Read for Line<'a> {
+    fn read(&mut self, buf: &mut [u8]) -> io::Result<usize> {
         let read = match self.reads.get(self.next) {
             Some(read) => *read,
             None => return Ok(0),
@@ -33,11 +30,47 @@ impl<'a> TwoWay for Line<'a> {
         buf[..n].copy_from_slice(&bytes[..n]);
         Ok(n)
     }
+}
 
-    fn give(&mut self, buf: &[u8]) -> io::Result<usize> {
+impl<'a> Write for Line<'a> {
+    fn write(&mut self, buf: &[u8]) -> io::Result<usize> {
         self.got.extend_from_slice(buf)?;
         Ok(buf.len())
     }
+
+    fn flush(&mut self) -> io::Result<()> {
+        Ok(())
+    }
+}
+
+impl<'a> Source for Line<'a> {
+    fn register(
+        &mut self,
+        _registry: &Registry,
+        _token: Token,
+        _interests: Interest,
+    ) -> io::Result<()> {
+        Ok(())
+    }
+
+    fn reregister(
+        &mut self,
+        _registry: &Registry,
+        _token: Token,
+        _interests: Interest,
+    ) -> io::Result<()> {
+        Ok(())
+    }
+
+    fn deregister(&mut self, _registry: &Registry) -> io::Result<()> {
+        Ok(())
+    }
+}
+
+impl<'a> Socket for Line<'a> {
+    ghost use Rattle.std.specs.Prelude.{refl};
+
+    ghost stays = { λ a b is. (refl, refl) };
 
     fn end_writing(&self) {}
 
@@ -51,10 +84,10 @@ pub(crate) struct Two<'a> {
     pub(crate) second: Option<Line<'a>>,
 }
 
-impl<'a> Door for Two<'a> {
+impl<'a> Accepts for Two<'a> {
     type Stream = Line<'a>;
 
-    fn next(&mut self) -> io::Result<Line<'a>> {
+    fn accept_next(&mut self) -> io::Result<Line<'a>> {
         if let Some(line) = self.first.take() {
             return Ok(line);
         }

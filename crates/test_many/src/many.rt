@@ -1,14 +1,16 @@
 //! Connections of the machine, served at once in one process.
 use crate::clients::{TESS, TOM, client, got, opened};
+use counter_api::{Asking, Counter};
 use counter_clocks::{Fixed, Moment};
-use counter_loop::{Notices, System, serve_many};
+use counter_door::{Entrance, System};
+use counter_loop::{Notices, serve_many};
 use mio::net::TcpListener;
 use sample_service::{SampleBadges, listed_sample};
 use std::net::{Ipv4Addr, SocketAddr};
 use std::os::fd::AsRawFd;
 use std::os::unix::net::UnixStream;
 use std::test::Fail;
-use store_rows::Bank;
+use store_rows::ListStore;
 
 /// Nobody, as no store of these tests has a disk.
 #[derive(Drop)]
@@ -18,32 +20,39 @@ impl Notices for Nobody {
     fn disk_failed(&mut self) {}
 }
 
-/// A listener at any port of the machine, and its address.
-fn listening(rt: &HostRuntime) -> Result<(TcpListener, SocketAddr), Fail> {
-    let door = TcpListener::bind(rt, SocketAddr::from((Ipv4Addr::LOCALHOST, 0)))?;
-    let address = door.local_addr()?;
-    Ok((door, address))
+/// The door at any port of the machine, and its address.
+fn listening(rt: &HostRuntime) -> Result<(Entrance<TcpListener>, SocketAddr), Fail> {
+    let listener = TcpListener::bind(rt, SocketAddr::from((Ipv4Addr::LOCALHOST, 0)))?;
+    let address = listener.local_addr()?;
+    Ok((Entrance::new(listener), address))
+}
+
+/// A counter over lists, with the badges of the sample and a clock that stands.
+pub(crate) type Sample = Counter<ListStore, SampleBadges, Fixed>;
+
+/// A counter over the sample bank.
+pub(crate) fn sample(rt: &HostRuntime) -> Result<Sample, Fail> {
+    let asking = Asking {
+        gate: SampleBadges,
+        moments: Fixed {
+            moment: Moment::cut(700),
+        },
+    };
+    match Counter::new(rt.alloc(), listed_sample(rt.alloc())?, asking) {
+        Ok(counter) => Ok(counter),
+        Err(_) => Err(Fail::new(format!(in rt.alloc(); "no memory")?)),
+    }
 }
 
 /// Serves the sample to who waits at a door, until all that has come whole is answered.
-fn serve_waiting(rt: &HostRuntime, door: &mut TcpListener) -> Result<(), Fail> {
+fn serve_waiting(rt: &HostRuntime, door: &mut Entrance<TcpListener>) -> Result<(), Fail> {
     let (input, other_side) = UnixStream::pair(rt)?;
     drop(other_side);
-    let store = listed_sample(rt.alloc())?;
-    let mut bank = Bank { store };
-    let mut clock = Fixed {
-        moment: Moment::cut(700),
-    };
+    let mut counter = sample(rt)?;
     let until = Some(input.as_raw_fd());
     let mut system = System::new(rt, rt.alloc(), door, until)?;
-    serve_many(
-        &mut system,
-        door,
-        &mut bank,
-        &SampleBadges,
-        &mut clock,
-        &mut Nobody,
-    )?;
+    let (_parted, done) = serve_many(rt.alloc(), &mut system, door, &mut counter, &mut Nobody);
+    done?;
     Ok(())
 }
 

@@ -1,43 +1,29 @@
 //! The loop over connections in memory, which are reported as a test says.
 use crate::clients::{TESS, TOM, opened};
 use crate::lines::{Line, Script, Two};
-use crate::many::Nobody;
-use counter_api::{Counter, Routes};
-use counter_clocks::{Fixed, Moment};
-use counter_loop::{Ready, serve};
+use crate::many::{Nobody, sample};
+use counter_door::{Entrance, Ready};
+use counter_loop::serve;
 use mio::Poll;
-use sample_service::{SampleBadges, listed_sample};
 use std::io;
 use std::test::Fail;
-use store_rows::Bank;
 
 /// Serves the sample to two connections, with these reports.
 fn serve_lines(
     rt: &HostRuntime,
-    door: &mut Two<'_>,
+    door: &mut Entrance<Two<'_>>,
     rounds: &[&[Ready]],
 ) -> Result<io::Result<()>, Fail> {
     let alloc = rt.alloc();
-    let store = listed_sample(alloc)?;
-    let mut bank = Bank { store };
-    let mut clock = Fixed {
-        moment: Moment::cut(700),
-    };
+    let mut counter = sample(rt)?;
     let mut system = Script {
         rt,
         poll: Poll::new(rt)?,
         rounds,
         next: 0,
     };
-    let routes = Routes::new(alloc)?;
-    let mut counter = Counter {
-        alloc,
-        bank: &mut bank,
-        gate: &SampleBadges,
-        clock: &mut clock,
-        routes: &routes,
-    };
-    Ok(serve(alloc, &mut system, door, &mut counter, &mut Nobody))
+    let (_parted, done) = serve(alloc, &mut system, door, &mut counter, &mut Nobody);
+    Ok(done)
 }
 
 #[test]
@@ -57,7 +43,7 @@ fn message_in_pieces_is_answered_beside_two_in_one(rt: HostRuntime) -> Result<()
     let whole = [Some(two.as_str()), None];
     let mut of_tess = Vec::new(alloc);
     let mut of_tom = Vec::new(alloc);
-    let mut door = Two {
+    let mut door = Entrance::new(Two {
         first: Some(Line {
             reads: &pieces,
             next: 0,
@@ -68,7 +54,7 @@ fn message_in_pieces_is_answered_beside_two_in_one(rt: HostRuntime) -> Result<()
             next: 0,
             got: &mut of_tom,
         }),
-    };
+    });
     let ended = serve_lines(
         &rt,
         &mut door,
@@ -93,14 +79,14 @@ fn loop_without_an_end_is_an_error(rt: HostRuntime) -> Result<(), Fail> {
     let alloc = rt.alloc();
     let whole = [Some(TESS), None];
     let mut of_tess = Vec::new(alloc);
-    let mut door = Two {
+    let mut door = Entrance::new(Two {
         first: Some(Line {
             reads: &whole,
             next: 0,
             got: &mut of_tess,
         }),
         second: None,
-    };
+    });
     let ended = serve_lines(&rt, &mut door, &[&[Ready::Connection(0)]])?;
     drop(door);
     assert!(rt; ended.is_err());

@@ -1,20 +1,11 @@
-//! A writer in memory that takes so many bytes a call and is broken at one of its calls.
+//! A writer in memory that fails at one of its calls.
 
 use money::Tallied;
 use std::alloc::Global;
 use std::io;
 use std::io::{ErrorKind, Write};
 
-/// What a writer does at the call that it does not carry out.
-#[derive(Clone, Copy, Debug, PartialEq, Eq)]
-pub enum Broken {
-    /// It fails. Its flushes are calls too.
-    Fails,
-    /// It takes none of the bytes.
-    TakesNone,
-}
-
-/// Takes at most so many bytes a call, but at one call, where it is broken.
+/// Takes all bytes of a call, but at one call, which fails. Its flushes are calls too.
 #[derive(Drop)]
 pub struct Sink {
     /// What it took.
@@ -23,43 +14,32 @@ pub struct Sink {
     pub flushed: usize,
     /// How often it was called.
     pub calls: usize,
-    size: usize,
-    broken: Broken,
-    broken_at: usize,
+    fails_at: usize,
 }
 
-/// A writer that takes at most so many bytes a call, and is broken at this call.
-pub fn sink(alloc: Global, size: usize, broken: Broken, broken_at: usize) -> Tallied<Sink> {
+/// A writer that fails at this call.
+pub fn sink(alloc: Global, fails_at: usize) -> Tallied<Sink> {
     Tallied::new(Sink {
         bytes: Vec::new(alloc),
         flushed: 0,
         calls: 0,
-        size,
-        broken,
-        broken_at,
+        fails_at,
     })
 }
 
 impl Write for Sink {
     fn write(&mut self, buf: &[u8]) -> io::Result<usize> {
         self.calls = self.calls.saturating_add(1);
-        if self.calls == self.broken_at {
-            return match self.broken {
-                Broken::Fails => Err(ErrorKind::BrokenPipe.into()),
-                Broken::TakesNone => Ok(0),
-            };
+        if self.calls == self.fails_at {
+            return Err(ErrorKind::BrokenPipe.into());
         }
-        let len = self.size.min(buf.len());
-        self.bytes.extend_from_slice(&buf[..len])?;
-        Ok(len)
+        self.bytes.extend_from_slice(buf)?;
+        Ok(buf.len())
     }
 
     fn flush(&mut self) -> io::Result<()> {
-        if self.broken == Broken::TakesNone {
-            return Ok(());
-        }
         self.calls = self.calls.saturating_add(1);
-        if self.calls == self.broken_at {
+        if self.calls == self.fails_at {
             return Err(ErrorKind::BrokenPipe.into());
         }
         self.flushed = self.flushed.saturating_add(1);

@@ -1,7 +1,7 @@
 //! Tests alone: streams of messages that come in pieces, end within a message or fail at any call, by an
-//! engine made for this and by posts over the sample in lists; how often a stream is called, and how long
-//! messages take that come byte by byte; and the bodies of operations and of commands, on bytes that were
-//! worked out by hand. Nothing here is proved or used by a program.
+//! engine made for this; how often a stream is called, and how long messages take that come byte by byte; and
+//! the bodies of operations and of commands, on bytes that were worked out by hand. Nothing here is proved or
+//! used by a program.
 #![tactic(auto)]
 
 #[cfg(test)]
@@ -12,7 +12,5 @@ mod command_bodies;
 mod message_streams;
 #[cfg(test)]
 mod operation_bodies;
-#[cfg(test)]
-mod posts_over_streams;
 #[cfg(test)]
 mod single_bytes;

@@ -1,5 +1,5 @@
 //! Engines, and what the loop makes of them over a reader and a writer in memory.
-use crate::broken_streams::{Broken, Sink, sink};
+use crate::broken_streams::{Sink, sink};
 use http::StatusCode;
 use http_messages::{AnswerFault, Engine, Message, ServeFault, Served, serve_messages};
 use money::Tallied;
@@ -107,7 +107,7 @@ fn in_pieces(input: &[u8], size: usize, fails_at: usize) -> Tallied<Pieces<'_>> 
 }
 
 fn to_sink(rt: &impl AllocGlobal, fails_at: usize) -> Tallied<Sink> {
-    sink(rt.alloc(), usize::MAX, Broken::Fails, fails_at)
+    sink(rt.alloc(), fails_at)
 }
 
 /// Serves the input in pieces of a size, at most so many messages, with a reader and a writer that fail at a call.

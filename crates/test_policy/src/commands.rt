@@ -15,7 +15,7 @@ use policy_commands::UserKey;
 use sample_bank::sample_policy;
 use std::alloc::Global;
 use std::process::Abort;
-use store_rows::{Bank, ListStore, PolicyReads, Stands};
+use store_rows::{Bank, ListStore, PolicyReads, StoreState};
 
 /// That Tess is suspended.
 fn suspend_tess() -> PolicyOp

@@ -6,7 +6,7 @@ use crate::questions::{OF_ACCOUNTS, OF_LISTING, OF_PROOF, OF_STATEMENT, Question
 use counter_ops::{Accounts, Proof, Statement};
 use decide::{Decision, Listed, Op, Reply, Rule, Who, carry_out, decide, list_policy};
 use reports::Report;
-use store_rows::{Bank, ReportReads, Stands};
+use store_rows::{Bank, ReportReads, StoreState};
 use test_counter::{Runtime, whole_sink};
 
 /// This user, in their first session.

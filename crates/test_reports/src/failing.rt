@@ -1,7 +1,7 @@
 //! A store that fails at one of its reads.
 
 use money::Fault;
-use store_rows::{ListStore, Stands};
+use store_rows::{ListStore, StoreState};
 use test_counter::{Read, Watch, Watched};
 
 /// Why a read fails.
@@ -61,7 +61,7 @@ impl Failing {
     }
 }
 
-impl Stands for Failing {
+impl StoreState for Failing {
     ghost use Rattle.std.specs.Prelude.{⊤};
 
     ghost status = { λ f. record {

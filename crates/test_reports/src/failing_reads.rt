@@ -4,7 +4,7 @@ use crate::counter::asked_of;
 use crate::failing::{Cause, Failing};
 use crate::questions::{QUESTIONS, Question, first_lines};
 use reports::{Report, ReportFault, counted};
-use store_rows::{Bank, Stands};
+use store_rows::{Bank, StoreState};
 use test_counter::{Runtime, whole_sink};
 
 /// How often a store is read while the length of a report is computed.

@@ -1,10 +1,7 @@
 //! Tests alone: reports over the sample in lists. They show the texts, as they were worked out by hand; and
-//! what is written, and answered next, where the writer is broken after each byte or the store fails at each
-//! read. Nothing here is proved or used by a program.
+//! which fault is returned where the store fails at each read. Nothing here is proved or used by a program.
 #![tactic(auto)]
 
-#[cfg(test)]
-mod broken_writers;
 #[cfg(test)]
 mod counted_reports;
 #[cfg(test)]
@@ -15,8 +12,6 @@ mod deciding;
 mod failing;
 #[cfg(test)]
 mod failing_reads;
-#[cfg(test)]
-mod failing_stores;
 #[cfg(test)]
 mod lines;
 #[cfg(test)]

@@ -2,15 +2,12 @@
 
 use crate::texts::{ACCOUNTS, LISTING, PROOF, STATEMENT};
 use reports::{AfterAccount, AfterTeller, BranchNumbers, Contents, FromTurn, Listing};
-use test_counter::{ASKS_LISTING, ASKS_PROOF, ASKS_STATEMENT, Runtime, reply_bytes};
 
 /// A report that is asked for.
 #[derive(Clone, Copy, Debug)]
 pub struct Question {
     /// What was sent before.
     pub before: &'static [u8],
-    /// Its message.
-    pub message: &'static [u8],
     /// Its text.
     pub text: &'static str,
     /// What is computed of it before it is written.
@@ -41,7 +38,6 @@ pub const BRANCH: BranchNumbers = BranchNumbers {
 /// Tess asks for the statement of account 101, after that post.
 pub const OF_STATEMENT: Question = Question {
     before: POST,
-    message: ASKS_STATEMENT,
     text: STATEMENT,
     contents: Contents {
         first: Listing::Statement(FromTurn {
@@ -58,8 +54,6 @@ pub const OF_STATEMENT: Question = Question {
 /// Tess asks for her accounts.
 pub const OF_ACCOUNTS: Question = Question {
     before: b"",
-    message: b"POST /do/accounts HTTP/1.1\r\nHost: bank\r\nBank-Badge: tess\r\nBank-Session: 1\r\n\
-        Content-Length: 22\r\n\r\n{\"after\":0,\"count\":10}",
     text: ACCOUNTS,
     contents: Contents {
         first: Listing::Accounts(AfterAccount {
@@ -77,7 +71,6 @@ pub const OF_ACCOUNTS: Question = Question {
 /// Sue asks for the proof of branch 1. After the last teller it is read that there is no other.
 pub const OF_PROOF: Question = Question {
     before: b"",
-    message: ASKS_PROOF,
     text: PROOF,
     contents: Contents {
         first: Listing::Tellers(AfterTeller {
@@ -95,7 +88,6 @@ pub const OF_PROOF: Question = Question {
 /// Olga asks for the listing of the policy.
 pub const OF_LISTING: Question = Question {
     before: b"",
-    message: ASKS_LISTING,
     text: LISTING,
     contents: Contents {
         first: Listing::Policy(None),
@@ -119,22 +111,4 @@ pub fn first_lines(text: &[u8], count: u64) -> &[u8] {
         left = left.saturating_sub(u64::from(*byte == b'\n'));
     }
     text
-}
-
-/// The reply to a message that a fault kept from being answered, by the name of the fault.
-pub fn fault_reply(rt: &impl Runtime, name: &str) -> Vec<u8> {
-    let body = format!(in rt.alloc(); "{{\"fault\":\"{name}\"}}").expect(rt, "memory");
-    reply_bytes(
-        rt,
-        "503 Service Unavailable",
-        "application/json",
-        body.as_str(),
-    )
-}
-
-impl Question {
-    /// Its reply.
-    pub fn reply(&self, rt: &impl Runtime) -> Vec<u8> {
-        reply_bytes(rt, "200 OK", "text/plain", self.text)
-    }
 }

@@ -1,14 +1,13 @@
 //! A bank in memory that is asked, and what has to come of it.
 
-use crate::forms::post;
-use bank_books::{BranchRecord, Entry, TellerRecord, World};
+use bank_books::{BranchRecord, TellerRecord, World};
 use bank_terms::MAX_MOMENT;
 use decide::{Decision, Op, Reply, Rule, Who, carry_out, decide};
 use rule_tests::{CashBook, Ledger};
 use sample_bank::sample_world;
 use std::alloc::Global;
 use std::process::Abort;
-use store_rows::{Bank, BookReads, ListStore, Stands};
+use store_rows::{Bank, BookReads, ListStore, StoreState};
 
 /// Tess, who holds drawer 11 of the sample, and posts, moves cash and asks for balances at branch 1.
 pub(crate) const TESS: Who = Who {
@@ -21,14 +20,6 @@ pub(crate) const TESS: Who = Who {
 /// Tom, who holds drawer 12, and posts and transfers up to 500.00 at branch 1, and up to 10.00 anywhere.
 pub(crate) const TOM: Who = Who {
     user: Some(8),
-    session: 1,
-    release: 0,
-    slip: 0,
-};
-
-/// Sue, who opens accounts and closes the day of branch 1.
-pub(crate) const SUE: Who = Who {
-    user: Some(9),
     session: 1,
     release: 0,
     slip: 0,
@@ -73,14 +64,6 @@ impl Desk {
     /// That of the sample bank.
     pub(crate) fn of_sample(rt: &impl Abort, alloc: Global) -> Desk {
         Desk::over(alloc, sample_world(alloc).expect(rt, "memory"))
-    }
-
-    /// That of the sample bank after Tess has posted 25.00 to account 101.
-    pub(crate) fn after_first_post(rt: &impl Abort, alloc: Global) -> Desk {
-        let mut desk = Desk::of_sample(rt, alloc);
-        let body = r#"{"balance":52500,"branch":1,"entry":1}"#;
-        desk.done(rt, TESS, post(rt, 101, 11, 1, 2_500), body);
-        desk
     }
 
     /// The body of the reply to a request that is carried out, or the rule that denies it.
@@ -170,17 +153,5 @@ impl Desk {
     fn branch(&mut self, rt: &impl Abort, branch: u32) -> BranchRecord {
         let row = self.bank.store.branch(self.alloc, branch);
         row.expect(rt, "no fault").expect(rt, "the branch")
-    }
-
-    /// Asks for an entry of branch 1, at its number.
-    pub(crate) fn entry_is(&mut self, rt: &impl Abort, entry: Entry) {
-        let row = self.bank.store.entry(self.alloc, 1, entry.number);
-        let row = row.expect(rt, "no fault").expect(rt, "the entry");
-        assert!(rt; row == entry);
-    }
-
-    /// How many calls of the store answered a fault.
-    pub(crate) fn faults(&self) -> u64 {
-        self.bank.store.faults()
     }
 }

@@ -1,10 +1,7 @@
 //! The operations that are asked for. Each is at branch 1 but a post, which names its branch.
 
-use crate::amounts::{cents, delta};
-use bank_books::{Entry, EntryForm};
-use counter_ops::{
-    Balance, CloseDay, Correct, DrawerOff, DrawerOn, MoveCash, NewAccount, Post, Transfer,
-};
+use crate::amounts::delta;
+use counter_ops::{Balance, Correct, DrawerOn, MoveCash, Post, Transfer};
 use decide::Op;
 use std::process::Abort;
 
@@ -57,15 +54,6 @@ pub(crate) fn on(teller: u32, cash: u32) -> Op {
     })
 }
 
-/// A drawer put off in which so much was counted.
-pub(crate) fn off(rt: &impl Abort, teller: u32, counted: i64) -> Op {
-    Op::DrawerOff(DrawerOff {
-        teller,
-        branch: 1,
-        counted: cents(rt, counted),
-    })
-}
-
 /// Cash moved from one place to another. The vault is 0.
 pub(crate) fn moved(source: u32, target: u32, amount: u32) -> Op {
     Op::MoveCash(MoveCash {
@@ -76,37 +64,7 @@ pub(crate) fn moved(source: u32, target: u32, amount: u32) -> Op {
     })
 }
 
-/// A new account, whose balance may not fall below this.
-pub(crate) fn opened(account: u32, branch: u32, floor: i32) -> Op {
-    Op::NewAccount(NewAccount {
-        account,
-        branch,
-        floor,
-    })
-}
-
 /// The question for the balance of an account.
 pub(crate) fn balance(account: u32) -> Op {
     Op::Balance(Balance { account })
-}
-
-/// The end of the day of branch 1.
-pub(crate) const CLOSE: Op = Op::CloseDay(CloseDay { branch: 1 });
-
-/// The post of 25.00 that is the first entry of branch 1, made by Tess.
-pub(crate) fn first_post(rt: &impl Abort) -> Entry {
-    Entry {
-        branch: 1,
-        number: 1,
-        account: 101,
-        turn: 1,
-        teller: 11,
-        delta: delta(rt, 2_500),
-        moment: 700,
-        day: 1,
-        user: 7,
-        form: EntryForm::Post,
-        partner: 0,
-        undoes: 0,
-    }
 }

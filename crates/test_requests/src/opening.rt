@@ -140,18 +140,6 @@ pub(crate) fn with_drawers_on(rt: &impl Abort, alloc: Global, opening: Opening) 
     world
 }
 
-/// The sample bank without account 102, which opens with nothing.
-pub(crate) fn without_account_102(rt: &impl Abort, alloc: Global) -> World {
-    let policy = sample_policy(alloc).expect(rt, "memory");
-    let mut world = World::new(alloc, policy);
-    add_branches(rt, &mut world, SAMPLE);
-    add_tellers(rt, &mut world, SAMPLE);
-    add_account(rt, &mut world, 101, 1, 50_000);
-    add_account(rt, &mut world, 201, 2, 30_000);
-    put_drawers_on(rt, alloc, &mut world);
-    world
-}
-
 /// A bank whose account 101, its teller 11 and its branch 1 stand at this balance, with drawers 11 and 12 on.
 pub(crate) fn opening_at(rt: &impl Abort, alloc: Global, balance: i64) -> World {
     let opening = Opening {
@@ -229,5 +217,4 @@ fn synthetic_books_at_the_ends_of_the_range_hold(rt: HostRuntime) {
     holds(&rt, alloc, opening_at(&rt, alloc, MOST));
     holds(&rt, alloc, with_a_full_drawer(&rt, alloc));
     holds(&rt, alloc, with_all_cash_of_entries(&rt, alloc));
-    holds(&rt, alloc, without_account_102(&rt, alloc));
 }

@@ -1,4 +1,4 @@
-//! Posts: what they move, and what stays in range.
+//! Posts: what is denied, and what stays in range.
 
 use crate::asking::{Desk, SAMPLE_CASH_BOOK, SAMPLE_LEDGER, TESS, TOM};
 use crate::forms::post;
@@ -6,45 +6,6 @@ use crate::opening::{opening_at, with_a_full_drawer, with_all_cash_of_entries};
 use decide::Rule;
 use rule_tests::{CashBook, Ledger};
 use std::process::Abort;
-
-/// Has Tess post to an account of her branch and to one of another.
-fn post_three_times(rt: &impl Abort, desk: &mut Desk) {
-    for (account, added, body) in [
-        (101, 2_500, r#"{"balance":52500,"branch":1,"entry":1}"#),
-        (201, -30_000, r#"{"balance":0,"branch":1,"entry":2}"#),
-        (101, 0, r#"{"balance":52500,"branch":1,"entry":3}"#),
-    ] {
-        desk.done(rt, TESS, post(rt, account, 11, 1, added), body);
-    }
-}
-
-#[test]
-fn posts_move_three_balances_and_a_drawer(rt: HostRuntime) {
-    let mut desk = Desk::of_sample(&rt, rt.alloc());
-    post_three_times(&rt, &mut desk);
-    desk.teller_is(&rt, 11, 32_500);
-    desk.drawer_is(&rt, 11, 12_500, Some(7));
-    let ledger = Ledger {
-        balance: 32_500,
-        entries: 3,
-        history: -27_500,
-        ..SAMPLE_LEDGER
-    };
-    desk.ledger_is(&rt, 1, ledger);
-    let book = CashBook {
-        lines: 7,
-        drawers: 17_500,
-        cash_entries: -27_500,
-        ..SAMPLE_CASH_BOOK
-    };
-    desk.cash_is(&rt, book, 55_000);
-    let other = Ledger {
-        balance: 20_000,
-        ..SAMPLE_LEDGER
-    };
-    desk.ledger_is(&rt, 2, other);
-    assert!(rt; desk.faults() == 0);
-}
 
 /// Has one post denied by each rule on posts.
 fn deny_posts(rt: &impl Abort, desk: &mut Desk) {

@@ -1,44 +1,13 @@
-//! Transfers, whose two entries stand at one teller: what they move, and what stays in range.
+//! Transfers, whose two entries stand at one teller: what stays in range.
 
-use crate::amounts::{MOST, delta};
+use crate::amounts::MOST;
 use crate::asking::{Desk, SAMPLE_LEDGER, TOM};
 use crate::forms::transfer;
 use crate::opening::{TARGET_AT_MOST, teller_12_at, with_drawers_on};
-use bank_books::{Entry, EntryForm};
 use decide::Rule;
 use rule_tests::Ledger;
 use std::alloc::Global;
 use std::process::Abort;
-
-#[test]
-fn a_transfer_makes_two_entries(rt: HostRuntime) {
-    let mut desk = Desk::of_sample(&rt, rt.alloc());
-    let body = r#"{"branch":1,"first":1,"second":2,"source":30000,"target":20000}"#;
-    desk.done(&rt, TOM, transfer(101, 102, 20_000), body);
-    let first = Entry {
-        branch: 1,
-        number: 1,
-        account: 101,
-        turn: 1,
-        teller: 12,
-        delta: delta(&rt, -20_000),
-        moment: 700,
-        day: 1,
-        user: 8,
-        form: EntryForm::TransferLeg,
-        partner: 2,
-        undoes: 0,
-    };
-    let second = Entry {
-        number: 2,
-        account: 102,
-        delta: delta(&rt, 20_000),
-        partner: 1,
-        ..first
-    };
-    desk.entry_is(&rt, first);
-    desk.entry_is(&rt, second);
-}
 
 #[test]
 fn the_target_of_a_transfer_stays_in_range(rt: HostRuntime) {

@@ -1,7 +1,7 @@
 //! Drawers that are put on: what they make of the opening, and what stays in range.
 
 use crate::asking::{Desk, SAMPLE_CASH_BOOK, SAMPLE_LEDGER, TESS, TOM};
-use crate::forms::{off, on};
+use crate::forms::on;
 use crate::opening::with_a_full_drawer;
 use decide::Rule;
 use sample_bank::opened_world;

@@ -6,13 +6,9 @@ use test_counter::{Runtime, reply_at, reply_bytes};
 /// A request of a user, and its reply.
 #[derive(Clone, Copy)]
 pub(crate) struct Exchange {
-    moment: u64,
     badge: &'static str,
     /// The path.
     asks: &'static str,
-    session: u32,
-    /// The number of the release that it names; 0 is none.
-    release: u32,
     /// The number of the slip that it bears; 0 is none.
     slip: u32,
     body: &'static str,
@@ -28,11 +24,8 @@ pub(crate) fn done(
     reply: &'static str,
 ) -> Exchange {
     Exchange {
-        moment: 700,
         badge,
         asks,
-        session: 1,
-        release: 0,
         slip: 0,
         body,
         status: "200 OK",
@@ -55,30 +48,10 @@ pub(crate) fn another_post() -> Exchange {
     done("tess", "/do/post", body, r#"{"name":"slip","rule":22}"#).refused()
 }
 
-/// Tom posts 600.00 to account 101, which is above his limit, and gets this reply.
-pub(crate) fn post_above(reply: &'static str) -> Exchange {
-    let body = r#"{"account":101,"branch":1,"delta":60000,"teller":12}"#;
-    done("tom", "/do/post", body, reply)
-}
-
 impl Exchange {
     /// The same, bearing this slip.
     pub(crate) fn with_slip(self, slip: u32) -> Exchange {
         Exchange { slip, ..self }
-    }
-
-    /// The same, naming the first release of its user.
-    pub(crate) fn released(self) -> Exchange {
-        Exchange { release: 1, ..self }
-    }
-
-    /// The same in a later session, at a later moment.
-    pub(crate) fn in_session(self, session: u32) -> Exchange {
-        Exchange {
-            session,
-            moment: 900,
-            ..self
-        }
     }
 
     /// The same, denied for who asks or for what they may.
@@ -102,15 +75,16 @@ impl Exchange {
         let Exchange {
             badge,
             asks,
-            session,
             body,
             ..
         } = *self;
-        let release = field(rt, "Bank-Release", self.release);
-        let slip = field(rt, "Bank-Slip", self.slip);
+        let slip = match self.slip {
+            0 => String::new(rt.alloc()),
+            slip => format!(in rt.alloc(); "Bank-Slip: {slip}\r\n").expect(rt, "memory"),
+        };
         let length = body.len();
         let message = format!(in rt.alloc();
-            "POST {asks} HTTP/1.1\r\nHost: bank\r\nBank-Badge: {badge}\r\nBank-Session: {session}\r\n{release}{slip}Content-Length: {length}\r\n\r\n{body}"
+            "POST {asks} HTTP/1.1\r\nHost: bank\r\nBank-Badge: {badge}\r\nBank-Session: 1\r\n{slip}Content-Length: {length}\r\n\r\n{body}"
         );
         message.expect(rt, "memory").into_bytes()
     }
@@ -119,7 +93,7 @@ impl Exchange {
     pub(crate) fn is_held<S: Store>(&self, rt: &impl Runtime, bank: &mut Bank<S>) {
         let due = reply_bytes(rt, self.status, "application/json", self.reply);
         let message = self.message(rt);
-        let given = reply_at(rt, bank, self.moment, message.as_slice());
+        let given = reply_at(rt, bank, 700, message.as_slice());
         assert!(rt;
             given == due,
             "{} with slip {}: {}",
@@ -127,13 +101,5 @@ impl Exchange {
             self.slip,
             self.reply
         );
-    }
-}
-
-/// The field of a number with its line end, or nothing for 0.
-fn field(rt: &impl Runtime, name: &str, number: u32) -> String {
-    match number {
-        0 => String::new(rt.alloc()),
-        _ => format!(in rt.alloc(); "{name}: {number}\r\n").expect(rt, "memory"),
     }
 }

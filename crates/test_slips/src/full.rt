@@ -1,7 +1,7 @@
 //! A user who has as many slips as one may have.
 
 use crate::exchange::{Exchange, FIRST, another_post, done, post};
-use crate::stores::{is_out_of_range, over_each_with};
+use crate::stores::{is_out_of_range, over_each};
 
 /// What denies a new slip of a user who has 100,000.
 const FULL: &str = r#"{"name":"full","rule":16}"#;
@@ -24,7 +24,7 @@ fn post_by_tom() -> Exchange {
 /// next slip is one too many, and any other rule comes before that.
 #[test]
 fn a_user_may_have_100_000_slips(rt: HostRuntime) {
-    over_each_with(
+    over_each(
         &rt,
         99_999,
         &[

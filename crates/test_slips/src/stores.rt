@@ -91,14 +91,9 @@ fn over<S: Store + Drop>(rt: &impl Runtime, store: S, exchanges: &[Exchange]) {
 }
 
 /// Has the exchanges made with the sample in each store, one after another, where Tess has so many slips.
-pub(crate) fn over_each_with(rt: &impl Runtime, slips: u32, exchanges: &[Exchange]) {
+pub(crate) fn over_each(rt: &impl Runtime, slips: u32, exchanges: &[Exchange]) {
     over(rt, in_lists(rt, slips), exchanges);
     over(rt, with_cache(rt, in_lists(rt, slips)), exchanges);
     over(rt, in_tables(rt, slips), exchanges);
     over(rt, with_cache(rt, in_tables(rt, slips)), exchanges);
-}
-
-/// The same, where nobody has a slip.
-pub(crate) fn over_each(rt: &impl Runtime, exchanges: &[Exchange]) {
-    over_each_with(rt, 0, exchanges);
 }

@@ -1,7 +1,6 @@
 //! The arguments of the command line: the store, and the moment.
 
-use sample_service::Moment;
-use sample_sql::StoreName;
+use sample_service::{Moment, StoreName};
 
 /// What the arguments ask for.
 #[derive(Clone, Copy)]

@@ -1,6 +1,6 @@
 //! Serves standard input to standard output over the sample bank in a store of one's choice, so that tests
 //! can compare stores: `test_stores STORE MOMENT`. STORE is `list`, `cached` or `sql`, and every message
-//! bears the moment. It calls `answer_in` of `sample_sql` and ends with its status, or with 2 where its
+//! bears the moment. It calls `answer_in` of `sample_service` and ends with its status, or with 2 where its
 //! arguments are refused. How the arguments are read is only tested.
 #![tactic(auto)]
 
@@ -8,8 +8,7 @@ mod arguments;
 
 use crate::arguments::arguments_of;
 use money::Tallied;
-use sample_service::{ServeFault, fail, tell};
-use sample_sql::answer_in;
+use sample_service::{ServeFault, answer_in, fail, tell};
 use std::io::BufWriter;
 use std::process::ExitCode;
 use std::{env, io};

@@ -1,17 +1,17 @@
 //! The store over these tables beside the store in lists: each read answers the same.
 
 use crate::compare::same;
-use bank_books::{Entry, EntryForm, RowWrite, Slip};
+use bank_books::{CashLine, Entry, EntryForm, LineForm, RowWrite, Slip};
 use bank_policy::{PolicyWrite, Triple};
 use bank_terms::{OperationRow, Procedure};
-use money::{Delta, Fault};
+use money::{Cents, Delta, Fault};
 use sample_bank::sample_world;
 use sql_create::create;
 use sqlite::{Alter, Connection, MemStore};
 use std::alloc::Global;
 use std::fmt::Debug;
 use std::process::Abort;
-use store_rows::{BookReads, ListStore, PolicyReads, ReportReads, SlipReads, Stands, Store};
+use store_rows::{BookReads, ListStore, PolicyReads, ReportReads, SlipReads, Store, StoreState};
 use store_sql::SqlStore;
 
 /// The sample bank, made in a database with nothing in it.
@@ -267,6 +267,52 @@ fn tables_return_slips_as_lists_do(rt: HostRuntime) {
     for (user, count) in [(7, 2), (8, 1), (9, 0), (99, 0)] {
         assert!(rt; slips_in(&rt, alloc, &mut tables, user) == count, "{user}");
     }
+}
+
+/// How many lines the cash book of branch 1 has as the sample opens: those of two drawers that are put on.
+const OPENING_LINES: u32 = 4;
+
+/// The line of the branch's n-th post, at drawer 11.
+fn line(rt: &impl Abort, number: u32) -> RowWrite {
+    RowWrite::Line(CashLine {
+        branch: 1,
+        number: OPENING_LINES + number,
+        place: 11,
+        amount: Cents::new(2_500).expect(rt, "an amount"),
+        form: LineForm::CashEntry,
+        moment: 700,
+        day: 1,
+        user: 7,
+    })
+}
+
+/// Posts in a store as requests do: the entry, its line and a slip of user 7, all of this number.
+fn post<S: Store>(rt: &impl Abort, alloc: Global, store: &mut S, number: u32) {
+    let operation = OperationRow {
+        form: Procedure::Post,
+        members: [101, 11, 1, 2_500, 0, 0, 0, 0],
+    };
+    let slip = Slip::new(7, number, operation, Vec::new(alloc));
+    let rows = vec![in alloc; entry(rt, number), line(rt, number), RowWrite::Slip(slip)];
+    assert!(rt; store.apply(alloc, rows.expect(rt, "memory")).is_ok());
+}
+
+/// What a store knows of the posts before it is what its tables have, which a second store over the same connection reads.
+#[test]
+fn rows_that_are_known_are_those_of_the_tables(rt: HostRuntime) {
+    let alloc = rt.alloc();
+    let mut tables = sample_tables(&rt, alloc);
+    let mut lists = sample_lists(&rt, alloc);
+    for number in 1..7 {
+        post(&rt, alloc, &mut tables, number);
+        post(&rt, alloc, &mut lists, number);
+        same_answers(&rt, alloc, &mut tables, &mut lists);
+        if number % 2 == 0 {
+            tables = store_over(&rt, connection_of(tables));
+            same_answers(&rt, alloc, &mut tables, &mut lists);
+        }
+    }
+    assert!(rt; slips_in(&rt, alloc, &mut tables, 7) == 6);
 }
 
 /// Authorizes Sue to list the accounts of set 5 from moment 800 to 900.

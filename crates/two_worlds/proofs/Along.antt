@@ -30,7 +30,7 @@ use Rattle.rule_tests.specs.Denial.{is_denial}
 use Rattle.bank_meaning.specs.Meaning.{json}
 use Rattle.bank_meaning.specs.PolicyRules.{asker}
 use Rattle.bank_meaning.specs.Requests.{denies, effect, executes, first, repeated, reply_text, rules}
-use Rattle.bank_meaning.specs.Run.{if_allowed, reply, step, told, told_again, unless_repeated}
+use Rattle.bank_meaning.specs.Run.{if_allowed, reply, step, stated, repeated_reply, unless_repeated}
 use Rattle.bank_meaning.specs.Sessions.{ending_tests, ending_text, latest, opening_tests, opening_text, session_of, standing_of_asker}
 use Rattle.bank_meaning.specs.Sums.{IsProper, PassesChecks}
 use Rattle.bank_meaning.specs.declared.execution.Execution.{Execution}
@@ -198,15 +198,15 @@ operation_alike w v bank bank' user x proper by agree =
 outside_alike : (w v : WorldLists) (user : ℕ) (x : Execution) → AgreeOnPolicy w v x → AgreeOnSlip w v x → IsOutside w x → IsAlike w v user (executes x)
 outside_alike w v user x agree named outside =
     let denied = outside_first w x outside in
-    let there = (blindly_first w v x denied.0 agree (λ behind. named) denied.1 denied.2).0 in
+    let there = (blindly_first w v x denied.0 agree (λ following. named) denied.1 denied.2).0 in
     let kept = repeated_same w v x agree named in
     let stays : step w (executes x) ≡ w = stays_denied w x denied.0 denied.2 in
     let stays' : step v (executes x) ≡ v = stays_denied v x denied.0 there in
     record {
       reply =
-          ap (λ f. told_again (repeated w (executes x)) (told f (reply_text w (executes x)))) denied.2
-          ∙ ap (λ again. told_again again (Err denied.0)) kept
-          ∙ sym (ap (λ f. told_again (repeated v (executes x)) (told f (reply_text v (executes x)))) there);
+          ap (λ f. repeated_reply (repeated w (executes x)) (stated f (reply_text w (executes x)))) denied.2
+          ∙ ap (λ again. repeated_reply again (Err denied.0)) kept
+          ∙ sym (ap (λ f. repeated_reply (repeated v (executes x)) (stated f (reply_text v (executes x)))) there);
       row = λ row. ap (λ z. user_row z.policy user) stays ∙ row ∙ sym (ap (λ z. user_row z.policy user) stays');
       agree = λ y of other. subst (λ z. Agree z (step v (executes x)) y) (sym stays) (subst (λ z. Agree w z y) (sym stays') other);
       slip = λ y other. subst (λ z. AgreeOnSlip z (step v (executes x)) y) (sym stays) (subst (λ z. AgreeOnSlip w z y) (sym stays') other);
@@ -222,7 +222,7 @@ opening_alike w v user who moment same =
     let there = standing_of_asker who v in
     let left : moves (session here) w v v (denied here) ≡ moves (session there) w v v (denied there) = (λ i. if_allowed (denied (same i)) (written (write.Session (session (same i))) v) v) in
     record {
-      reply = ap (λ o. told (denied o) (json (opening_text (latest o + 1)))) same;
+      reply = ap (λ o. stated (denied o) (json (opening_text (latest o + 1)))) same;
       row = λ row. user_after (session here) w v (denied here) user row ∙ ap (λ z. user_row z.policy user) left;
       agree = λ y of agree. subst (λ z. Agree (moves (session here) w v w (denied here)) z y) left (agree_moved (session here) w v (denied here) y agree);
       slip = λ y agree. subst (λ z. AgreeOnSlip (moves (session here) w v w (denied here)) z y) left (slip_moved (session here) w v (denied here) y agree);
@@ -238,7 +238,7 @@ ending_alike w v user who moment same =
     let there = standing_of_asker who v in
     let left : moves (session here) w v v (denied here) ≡ moves (session there) w v v (denied there) = (λ i. if_allowed (denied (same i)) (written (write.Session (session (same i))) v) v) in
     record {
-      reply = ap (λ o. told (denied o) (json (ending_text (latest o)))) same;
+      reply = ap (λ o. stated (denied o) (json (ending_text (latest o)))) same;
       row = λ row. user_after (session here) w v (denied here) user row ∙ ap (λ z. user_row z.policy user) left;
       agree = λ y of agree. subst (λ z. Agree (moves (session here) w v w (denied here)) z y) left (agree_moved (session here) w v (denied here) y agree);
       slip = λ y agree. subst (λ z. AgreeOnSlip (moves (session here) w v w (denied here)) z y) left (slip_moved (session here) w v (denied here) y agree);

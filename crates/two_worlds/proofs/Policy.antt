@@ -31,7 +31,7 @@ use Rattle.counter_ops.specs.Touched.{amount, branch_item, touched}
 use Rattle.bank_meaning.specs.NamedRelease.{counts, is_active, is_giver_for, is_of_today, is_same_operation, release_grounds_of}
 use Rattle.bank_meaning.specs.PolicyRules.{asker, grounds, is_identified, is_released, leave_of, policy_denies}
 use Rattle.bank_meaning.specs.declared.execution.Execution.{Execution}
-use Rattle.bank_meaning.specs.declared.leave.Leave.TheVariants as leave
+use Rattle.bank_meaning.specs.declared.leave.Authorization.TheVariants as leave
 use Rattle.two_worlds.specs.Agree.{AgreeOnGiver, AgreeOnPolicy, AgreeOnRelease}
 use Rattle.two_worlds.specs.Laws.{is_blind}
 use Rattle.two_worlds.proofs.SameRows.{same_day}
@@ -67,12 +67,12 @@ branch_place _ = None
 abbrev branch_in : OperationRow → Option ℤ
 branch_in row = option_map (λ k. get_or row.members k (pos 0)) (branch_place row.form)
 
-branch_told : (r : Releasable) → branch_in (row_of (op_of r)) ≡ Some (pos (branch_of r))
-branch_told (releasable.Post p) = refl
-branch_told (releasable.Transfer t) = refl
-branch_told (releasable.Correct c) = refl
-branch_told (releasable.DrawerOn d) = refl
-branch_told (releasable.MoveCash m) = refl
+branch_stated : (r : Releasable) → branch_in (row_of (op_of r)) ≡ Some (pos (branch_of r))
+branch_stated (releasable.Post p) = refl
+branch_stated (releasable.Transfer t) = refl
+branch_stated (releasable.Correct c) = refl
+branch_stated (releasable.DrawerOn d) = refl
+branch_stated (releasable.MoveCash m) = refl
 
 one_number : (a b : ℕ) → ◌≡◌ {A = Option ℤ} (Some (pos a)) (Some (pos b)) → a ≡ b
 one_number a b same = let is : pos a ≡ pos b = cc in omega (arith, ints)
@@ -85,8 +85,8 @@ branch_among (op.DrawerOn d) n is = subst (λ b. Contains (touched (op.DrawerOn 
 branch_among (op.MoveCash m) n is = subst (λ b. Contains (touched (op.MoveCash m)) (branch_item b)) (one_number m.branch n is) (branch_there m)
 branch_among _ n is = absurd cc
 
-same_told : (row other : OperationRow) → is_same_operation row other ≡ true → row ≡ other
-same_told row other is =
+same_of_test : (row other : OperationRow) → is_same_operation row other ≡ true → row ≡ other
+same_of_test row other is =
     let parts = and_parts (number_of row.form == number_of other.form) (pointwise int_eq row.members other.members) is in
     ap (λ f. record { form = f; members = row.members }) (one_procedure row.form other.form (eqb-true (number_of row.form) (number_of other.form) parts.0))
     ∙ ap (λ ms. record { form = other.form; members = ms }) ((signed_items row.members other.members).0 parts.1)
@@ -98,9 +98,9 @@ module _ (w v : WorldLists) (x : Execution) (books : Books w) (books' : Books v)
   today_same : (r : Release) → Contains w.releases r → is_same_operation r.operation (row_of x.op) ≡ true → is_of_today (release_grounds_of w x.moment r) ≡ is_of_today (release_grounds_of v x.moment r)
   today_same r there is =
       let holds = (books.in_range.releases r there).operation in
-      let row = holds.1.1 ∙ same_told r.operation (row_of x.op) is in
-      let told = sym (ap branch_in row) ∙ branch_told holds.0 in
-      let among = subst (λ b. Contains (touched x.op) (branch_item b)) holds.1.2 (branch_among x.op (branch_of holds.0) told) in
+      let row = holds.1.1 ∙ same_of_test r.operation (row_of x.op) is in
+      let stated = sym (ap branch_in row) ∙ branch_stated holds.0 in
+      let among = subst (λ b. Contains (touched x.op) (branch_item b)) holds.1.2 (branch_among x.op (branch_of holds.0) stated) in
       ap (λ o. option_map_or (λ day. r.day == day) o false) (same_day w v books books' r.branch (same (branch_item r.branch) among))
 
   counts_same : (r : Release) → Contains w.releases r → AgreeOnGiver w v r.giver

@@ -6,7 +6,7 @@ use Rattle.counter_ops.specs.declared.op.Op.{Op}
 use Rattle.counter_ops.specs.declared.op.Op.TheVariants as op
 use Rattle.counter_ops.specs.declared.release.Release.{Release as Given}
 use Rattle.bank_meaning.specs.PolicyRules.{grounds, is_in_limit}
-use Rattle.bank_meaning.specs.declared.leave.Leave.TheVariants as leave
+use Rattle.bank_meaning.specs.declared.leave.Authorization.TheVariants as leave
 use Rattle.bank_meaning.specs.declared.request.Asked.{Asked}
 use Rattle.bank_meaning.specs.declared.request.Asked.TheVariants as asked
 use Rattle.two_worlds.specs.Agree.{releases_given}

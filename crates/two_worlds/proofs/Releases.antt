@@ -17,8 +17,8 @@ use Rattle.book_laws.proofs.LastRow.{or_else}
 use Rattle.keyed_rows.proofs.Rows.{count-add_row, found_row}
 use Rattle.world_reads.specs.BookReads.{is_release, release}
 use Rattle.world_reads.specs.PolicyReads.{user_record_of}
-use Rattle.bank_meaning.specs.declared.leave.Leave.{Leave}
-use Rattle.bank_meaning.specs.declared.leave.Leave.TheVariants as leave
+use Rattle.bank_meaning.specs.declared.leave.Authorization.{Authorization}
+use Rattle.bank_meaning.specs.declared.leave.Authorization.TheVariants as leave
 use Rattle.two_worlds.specs.Agree.{releases_given}
 use Rattle.bank_meaning.specs.Order.{AreBooksInOrder, IsInOrder}
 use Rattle.bank_meaning.proofs.KeptOrder.{in_order_written}
@@ -55,7 +55,7 @@ plan_release (c ∷ cs) w user number order = plan_release cs (written c w) user
 
 -- ---- an authorization, as the changes that it makes
 
-abbrev pub uses : Leave → ℕ → List RowWrite
+abbrev pub uses : Authorization → ℕ → List RowWrite
 uses leave.Triple user = []
 uses (leave.Release number) user = write.Used (record { user = user; number = number }) ∷ []
 

@@ -21,11 +21,11 @@ use Rattle.bank_meaning.specs.Executions.{execution_meaning}
 use Rattle.bank_meaning.specs.Meaning.{ReplyText}
 use Rattle.bank_meaning.specs.PolicyRules.{asker, grounds, is_identified, used_by}
 use Rattle.bank_meaning.specs.Requests.{executes, first, repeated, reply_text}
-use Rattle.bank_meaning.specs.Run.{if_allowed, step, told, told_again, unless_repeated}
+use Rattle.bank_meaning.specs.Run.{if_allowed, step, stated, repeated_reply, unless_repeated}
 use Rattle.bank_meaning.specs.Slips.{has_no_room, is_of_another, kept_reply, slip_grounds, slip_named, slip_of, taken_by}
 use Rattle.bank_meaning.specs.declared.execution.Execution.{Execution}
-use Rattle.bank_meaning.specs.declared.leave.Leave.{Leave}
-use Rattle.bank_meaning.specs.declared.leave.Leave.TheVariants as leave
+use Rattle.bank_meaning.specs.declared.leave.Authorization.{Authorization}
+use Rattle.bank_meaning.specs.declared.leave.Authorization.TheVariants as leave
 use Rattle.bank_meaning.proofs.KeptReplies.{plain_slips}
 use Rattle.two_worlds.specs.Agree.{AgreeOnPolicy, AgreeOnSlip, AgreeOnSlipCount}
 use Rattle.two_worlds.proofs.Grown.{find_added, or_none}
@@ -41,10 +41,10 @@ made w x after before = unless_repeated (repeated w (executes x)) (if_allowed (f
 abbrev pub takes : Execution → List ℕ → List RowWrite
 takes x bytes = if slip_named x == 0 then [] else write.Slip (slip_of x bytes) ∷ []
 
-pub used_and_taken : (l : Leave) (user : ℕ) (x : Execution) (bytes : List ℕ) (w : WorldLists) → taken_by x bytes (used_by l user w) ≡ all_written (uses l user ++ takes x bytes) w
+pub used_and_taken : (l : Authorization) (user : ℕ) (x : Execution) (bytes : List ℕ) (w : WorldLists) → taken_by x bytes (used_by l user w) ≡ all_written (uses l user ++ takes x bytes) w
 used_and_taken l user x bytes w = go l (slip_named x == 0)
   where
-    go : (l : Leave) (b : Bool) → (if b then used_by l user w else written (write.Slip (slip_of x bytes)) (used_by l user w))
+    go : (l : Authorization) (b : Bool) → (if b then used_by l user w else written (write.Slip (slip_of x bytes)) (used_by l user w))
         ≡ all_written (uses l user ++ (if b then [] else write.Slip (slip_of x bytes) ∷ [])) w
     go leave.Triple true = refl
     go leave.Triple false = refl
@@ -87,7 +87,7 @@ unknown_is_none true kept is = absurd (false≢true is)
 unknown_is_none false kept is = refl
 
 -- what is denied is no repeat
-pub denied_is_none : (kept : Option (List ℕ)) (f : Option Rule) (text : ReplyText) (r : Rule) → told_again kept (told f text) ≡ Err r → (kept ≡ None) × (f ≡ Some r)
+pub denied_is_none : (kept : Option (List ℕ)) (f : Option Rule) (text : ReplyText) (r : Rule) → repeated_reply kept (stated f text) ≡ Err r → (kept ≡ None) × (f ≡ Some r)
 denied_is_none (Some bytes) f text r is = absurd cc
 denied_is_none None None text r is = absurd cc
 denied_is_none None (Some s) text r is = let same : s ≡ r = cc in (refl, ap Some same)

@@ -31,13 +31,13 @@ no_row x none = cc
 
 in_found : {X : Type 0} (h : ℕ → Option X) (ns : List ℕ) (n : ℕ) (x : X) → Contains ns n → h n ≡ Some x → Contains (filter_map h ns) x
 in_found h [] n x (k, within, is) some = absurd (omega arith)
-in_found {X} h (m ∷ ns) n x there some = go (Contains-cons_cases m ns n there) (h m) refl (λ behind. in_found h ns n x behind some)
+in_found {X} h (m ∷ ns) n x there some = go (Contains-cons_cases m ns n there) (h m) refl (λ following. in_found h ns n x following some)
   where
     go : (m ≡ n) ⊎ Contains ns n → (o : Option X) → h m ≡ o → (Contains ns n → Contains (filter_map h ns) x) → Contains (cons_option o (filter_map h ns)) x
     go (inl here) (Some y) is rest = (0, omega arith, one_row y x (sym is ∙ ap h here ∙ some))
     go (inl here) None is rest = absurd (no_row x (sym is ∙ ap h here ∙ some))
-    go (inr behind) (Some y) is rest = Contains-tail y (filter_map h ns) x (rest behind)
-    go (inr behind) None is rest = rest behind
+    go (inr following) (Some y) is rest = Contains-tail y (filter_map h ns) x (rest following)
+    go (inr following) None is rest = rest following
 
 from_found : {X : Type 0} (h : ℕ → Option X) (ns : List ℕ) (x : X) → Contains (filter_map h ns) x → (n : ℕ) × (h n ≡ Some x)
 from_found h [] x (k, within, is) = absurd (omega arith)
@@ -45,13 +45,13 @@ from_found {X} h (m ∷ ns) x there = go (h m) refl there (from_found h ns x)
   where
     go : (o : Option X) → h m ≡ o → Contains (cons_option o (filter_map h ns)) x → (Contains (filter_map h ns) x → (n : ℕ) × (h n ≡ Some x)) → (n : ℕ) × (h n ≡ Some x)
     go None is at rest = rest at
-    go (Some y) is at rest = elim (Contains-cons_cases y (filter_map h ns) x at) [ inl here ↦ (m, is ∙ ap Some here) | inr behind ↦ rest behind ]
+    go (Some y) is at rest = elim (Contains-cons_cases y (filter_map h ns) x at) [ inl here ↦ (m, is ∙ ap Some here) | inr following ↦ rest following ]
 
 -- a row that passes is found, where no other does
 only_one : {X : Type 0} (p : X → Bool) (xs : List X) (x : X) → count_by p xs ≤ 1 → Contains xs x → p x ≡ true → find p xs ≡ Some x
 only_one p [] x one (k, within, is) passes = absurd (omega arith)
 only_one {X} p (y ∷ ys) x one there passes =
-    go (p y) refl (Contains-cons_cases y ys x there) (subst (λ n. n ≤ 1) (sum_by-cons (λ z. cond (p z) 1 0) y ys) one) (λ few behind. only_one p ys x few behind passes)
+    go (p y) refl (Contains-cons_cases y ys x there) (subst (λ n. n ≤ 1) (sum_by-cons (λ z. cond (p z) 1 0) y ys) one) (λ few following. only_one p ys x few following passes)
   where
     too_many : (n : ℕ) → 1 ≤ n → 1 + n ≤ 1 → ⊥
     too_many n some few = omega arith
@@ -61,9 +61,9 @@ only_one {X} p (y ∷ ys) x one there passes =
 
     go : (b : Bool) → p y ≡ b → (y ≡ x) ⊎ Contains ys x → cond (p y) 1 0 + count_by p ys ≤ 1 → (count_by p ys ≤ 1 → Contains ys x → find p ys ≡ Some x) → cond b (Some y) (find p ys) ≡ Some x
     go true at (inl here) few rest = ap Some here
-    go true at (inr behind) few rest = absurd (too_many (count_by p ys) (count_some p ys x behind passes) (subst (λ b. cond b 1 0 + count_by p ys ≤ 1) at few))
+    go true at (inr following) few rest = absurd (too_many (count_by p ys) (count_some p ys x following passes) (subst (λ b. cond b 1 0 + count_by p ys ≤ 1) at few))
     go false at (inl here) few rest = absurd (false≢true (sym at ∙ ap p here ∙ passes))
-    go false at (inr behind) few rest = rest (fewer (count_by p ys) (subst (λ b. cond b 1 0 + count_by p ys ≤ 1) at few)) behind
+    go false at (inr following) few rest = rest (fewer (count_by p ys) (subst (λ b. cond b 1 0 + count_by p ys ≤ 1) at few)) following
 
 in_range : (n count : ℕ) → 1 ≤ n → n ≤ count → Contains (range_with_len 1 count) n
 in_range n count low high =

@@ -35,18 +35,18 @@ use Rattle.world_reads.specs.BookReads.{is_account_of, is_release, release}
 use Rattle.counter_ops.specs.Touched.{account_item, touched}
 use Rattle.bank_meaning.specs.Executions.{execution_meaning, is_of_policy, signature_of}
 use Rattle.bank_meaning.specs.LastWord as Said
-use Rattle.bank_meaning.specs.Meaning.{Meaning, rules_behind_policy, by_books}
+use Rattle.bank_meaning.specs.Meaning.{Meaning, rules_after_policy, by_books}
 use Rattle.bank_meaning.specs.NamedRelease.{counts, release_grounds_of}
 use Rattle.bank_meaning.specs.Operations.{form_of, meaning_of}
 use Rattle.bank_meaning.specs.PolicyRules.{asker, grounds, is_identified, is_in_limit, is_released, leave_of, used_by}
 use Rattle.bank_meaning.specs.Order.{IsInOrder}
 use Rattle.bank_meaning.specs.Requests.{denies, effect, executes, first, repeated, reply_text, rules}
-use Rattle.bank_meaning.specs.Run.{if_allowed, step, told, told_again, unless_repeated}
+use Rattle.bank_meaning.specs.Run.{if_allowed, step, stated, repeated_reply, unless_repeated}
 use Rattle.bank_meaning.specs.Slips.{kept_reply, slip_grounds, slip_named, slip_of, taken_by}
 use Rattle.bank_meaning.specs.Sums.{PassesChecks}
 use Rattle.bank_meaning.specs.declared.execution.Execution.{Execution}
-use Rattle.bank_meaning.specs.declared.leave.Leave.{Leave}
-use Rattle.bank_meaning.specs.declared.leave.Leave.TheVariants as leave
+use Rattle.bank_meaning.specs.declared.leave.Authorization.{Authorization}
+use Rattle.bank_meaning.specs.declared.leave.Authorization.TheVariants as leave
 use Rattle.bank_meaning.specs.declared.request.Asked.{Asked}
 use Rattle.bank_meaning.specs.declared.request.Asked.TheVariants as asked
 use Rattle.bank_meaning.proofs.AllowedRequest.{allowed_by_books}
@@ -120,7 +120,7 @@ uses_within items w x z = go (repeated w (executes x)) (first w (executes x)) (l
     row : SlipRow
     row = slip_of x (reply_text w (executes x)).bytes
 
-    go : (kept : Option (List ℕ)) (f : Option Rule) (l : Leave) (b : Bool)
+    go : (kept : Option (List ℕ)) (f : Option Rule) (l : Authorization) (b : Bool)
         → AreWithin items z.tellers (unless_repeated kept (if_allowed f (uses l (asker x.who) ++ (if b then [] else write.Slip row ∷ [])) []) [])
     go None None leave.Triple true = tt
     go None None leave.Triple false = (tt, tt)
@@ -277,10 +277,10 @@ module _ (w v : WorldLists) (x : Execution) (r : Rule) (agree : AgreeOnPolicy w 
   tested z other = denies other z (executes x)
 
   abbrev rest : WorldLists → Option Rule
-  rest z = find (tested z) (rule.Release ∷ rules_behind_policy)
+  rest z = find (tested z) (rule.Release ∷ rules_after_policy)
 
-  not_behind : ¬ (rest w ≡ Some r)
-  not_behind some = false≢true (sym (not_among (tested w) is_blind (rule.Release ∷ rules_behind_policy) r refl some) ∙ blind)
+  not_after : ¬ (rest w ≡ Some r)
+  not_after some = false≢true (sym (not_among (tested w) is_blind (rule.Release ∷ rules_after_policy) r refl some) ∙ blind)
 
   -- where the user who asks is not known, and where they are
   abbrev BlindlyFirst : Type 0
@@ -297,14 +297,14 @@ module _ (w v : WorldLists) (x : Execution) (r : Rule) (agree : AgreeOnPolicy w 
 
   known : tested w rule.Identity ≡ false → BlindlyFirst
   known at =
-      let behind : by_blind false (tested w rule.Slip) (tested w rule.NotCertified) (tested w rule.NoTriple) (tested w rule.Limit) (rest w) ≡ Some r =
+      let following : by_blind false (tested w rule.Slip) (tested w rule.NotCertified) (tested w rule.NoTriple) (tested w rule.Limit) (rest w) ≡ Some r =
       sym (ap (λ a. by_blind a (tested w rule.Slip) (tested w rule.NotCertified) (tested w rule.NoTriple) (tested w rule.Limit) (rest w)) at) ∙ is in
-      let named = slip_agrees (not_identity (tested w rule.Slip) (tested w rule.NotCertified) (tested w rule.NoTriple) (tested w rule.Limit) (rest w) r not_behind behind) in
+      let named = slip_agrees (not_identity (tested w rule.Slip) (tested w rule.NotCertified) (tested w rule.NoTriple) (tested w rule.Limit) (rest w) r not_after following) in
       let same = λ (other : Rule) (of : is_blind other ≡ true). sym (blind_same w v x agree other of) in
       let slip_same = sym (another_same w v x named) in
       let first_v : first v (executes x) ≡ Some r =
       (λ i. by_blind (same rule.Identity refl i) (slip_same i) (same rule.NotCertified refl i) (same rule.NoTriple refl i) (same rule.Limit refl i) (rest v))
-      ∙ same_blind (tested w rule.Identity) (tested w rule.Slip) (tested w rule.NotCertified) (tested w rule.NoTriple) (tested w rule.Limit) (rest w) (rest v) r not_behind is in
+      ∙ same_blind (tested w rule.Identity) (tested w rule.Slip) (tested w rule.NotCertified) (tested w rule.NoTriple) (tested w rule.Limit) (rest w) (rest v) r not_after is in
       (first_v, λ none. sym (repeated_same w v x agree named) ∙ none)
 
   pub blindly_first : BlindlyFirst
@@ -318,7 +318,7 @@ pub blindly_denied : BlindlyDenied
 blindly_denied w v x r agree named blind is =
     let denied = denied_is_none (repeated w (executes x)) (first w (executes x)) (reply_text w (executes x)) r is in
     let there = blindly_first w v x r agree named blind denied.1 in
-    ap₂ (λ kept f. told_again kept (told f (reply_text v (executes x)))) (there.1 denied.0) there.0
+    ap₂ (λ kept f. repeated_reply kept (stated f (reply_text v (executes x)))) (there.1 denied.0) there.0
 
 -- ---- one World
 
@@ -391,7 +391,7 @@ module _ (w : WorldLists) (x : Execution) (bank : PassesChecks w) (proper : IsOp
           use_leaves (asker x.who) used user number (release w user number) (used_fits w x used bank.books none is) (release_there w user number bank.books)
           (λ same. other.unused (is ∙ ap leave.Release (sym same)))
 
-      go : (kept : Option (List ℕ)) (f : Option Rule) → first w (executes x) ≡ f → (l : Leave) → leave_of (grounds w x) ≡ l → (b : Bool)
+      go : (kept : Option (List ℕ)) (f : Option Rule) → first w (executes x) ≡ f → (l : Authorization) → leave_of (grounds w x) ≡ l → (b : Bool)
           → releases_after (unless_repeated kept (if_allowed f (uses l (asker x.who) ++ (if b then [] else write.Slip row ∷ [])) []) []) user number (release w user number)
           ≡ release w user number
       go (Some again) f denied l is b = refl
@@ -440,7 +440,7 @@ module _ (w v : WorldLists) (x : Execution) (bank : PassesChecks w) (bank' : Pas
       row : SlipRow
       row = slip_of x (reply_text w (executes x)).bytes
 
-      none_used : (kept : Option (List ℕ)) (f : Option Rule) (l : Leave) (b : Bool)
+      none_used : (kept : Option (List ℕ)) (f : Option Rule) (l : Authorization) (b : Bool)
           → releases_after (unless_repeated kept (if_allowed f (uses l (asker x.who) ++ (if b then [] else write.Slip row ∷ [])) []) []) user number None ≡ None
       none_used None None leave.Triple true = refl
       none_used None None leave.Triple false = refl
@@ -506,7 +506,7 @@ module _ (w v : WorldLists) (x : Execution) (bank : PassesChecks w) (bank' : Pas
 
 pub agreeing_answer_alike : AgreeingAnswerAlike
 agreeing_answer_alike w v x bank bank' proper agree = record {
-  reply = λ i. told_again (repeated_alike w v x bank bank' proper agree i) (told (first_alike w v x bank bank' proper agree i) (judged w v x bank bank' proper agree i).reply);
+  reply = λ i. repeated_reply (repeated_alike w v x bank bank' proper agree i) (stated (first_alike w v x bank bank' proper agree i) (judged w v x bank bank' proper agree i).reply);
   agree = agree_after w v x bank bank' proper agree x refl agree;
 }
 

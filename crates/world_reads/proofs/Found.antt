@@ -22,8 +22,8 @@ pub found-front : {X : Type 0} (p : X → Bool) (xs ys : List X) (x : X) → Som
 found-front p xs ys x is = ap (λ o. option_or o (find p ys)) is ∙ sym (find-append p xs ys)
 
 -- none of them does
-pub found-behind : {X : Type 0} (p : X → Bool) (xs ys : List X) (o : Option X) → None ≡ find p xs → o ≡ find p ys → o ≡ find p (xs ++ ys)
-found-behind p xs ys o none is = is ∙ ap (λ q. option_or q (find p ys)) none ∙ sym (find-append p xs ys)
+pub found-following : {X : Type 0} (p : X → Bool) (xs ys : List X) (o : Option X) → None ≡ find p xs → o ≡ find p ys → o ≡ find p (xs ++ ys)
+found-following p xs ys o none is = is ∙ ap (λ q. option_or q (find p ys)) none ∙ sym (find-append p xs ys)
 
 missed-next : {X Y : Type 0} (p : Y → Bool) (f : ℕ × X → Y) (place : ℕ) (xs : List X) → ((x : X) → p (f (place, x)) ≡ false) →
     find p (map f (enumerate_from place xs)) ≡ find p (map f (enumerate_from (place + 1) (drop 1 xs)))

@@ -16,8 +16,8 @@ found-holds p P [] r all e = cc
 found-holds p P (x ∷ xs) r all e = tested (p x) (found-holds p P xs r (All-tail P x xs all)) e
   where
     tested : (b : Bool) → (find p xs ≡ Some r → P r) → cond b (Some x) (find p xs) ≡ Some r → P r
-    tested true behind found = let same : x ≡ r = cc in rw (← same) (All-head P x xs all)
-    tested false behind found = behind found
+    tested true following found = let same : x ≡ r = cc in rw (← same) (All-head P x xs all)
+    tested false following found = following found
 
 same-above : {X : Type 0} (key : X → ℕ) (q : X → Bool) (a b : ℕ) (xs : List X) → a < b → All (λ y. b < key y) xs → filter (passes key q a) xs ≡ filter (passes key q b) xs
 same-above key q a b [] below all = refl
@@ -42,14 +42,14 @@ next-kept key q a (x ∷ xs) r order e = tested (passes key q a x) refl (next-ke
     tested : (b : Bool) → passes key q a x ≡ b → (find (passes key q a) xs ≡ Some r → filter (passes key q a) xs ≡ r ∷ filter (passes key q (key r)) xs) →
         cond b (Some x) (find (passes key q a) xs) ≡ Some r →
         cond b (x ∷ filter (passes key q a) xs) (filter (passes key q a) xs) ≡ r ∷ filter (passes key q (key r)) (x ∷ xs)
-    tested true is behind found =
+    tested true is following found =
         let same : x ≡ r = cc in
         let over : a < key x = ltb-true a (key x) (and_parts (ltb a (key x)) (q x) is).0 in
         ap (λ ys. x ∷ ys) (same-above key q a (key x) xs over order.0 ∙ sym (here (key x) (omega arith)))
         ∙ ap (λ z. z ∷ filter (passes key q (key z)) (x ∷ xs)) same
-    tested false is behind found =
+    tested false is following found =
         let over : key x < key r = found-holds (passes key q a) (λ y. key x < key y) xs r order.0 found in
-        behind found ∙ ap (λ ys. r ∷ ys) (sym (here (key r) (omega arith)))
+        following found ∙ ap (λ ys. r ∷ ys) (sym (here (key r) (omega arith)))
 
 made-on : {X Y : Type 0} (f : X → Y) (back : Y → X) (again : (x : X) → back (f x) ≡ x) (key : X → ℕ) (q : X → Bool) (a n : ℕ) (xs : List X) (o : Option X) (y : Y) → Rises key xs →
     find (passes key q a) xs ≡ o → option_map f o ≡ Some y →

@@ -1,10 +1,10 @@
--- What a loop keeps of the rows that pass a test, up to so many.
+-- What a loop keeps of the rows that pass a test, up to n of them.
 use Rattle.std.proofs.Common.{◌≡◌, ℕ, List, Bool, map, take, drop, length, ap, sym, ◌∙◌, take-append-drop}
 use Rattle.std.specs.List.{filter}
 use Rattle.std.proofs.lemmas.List.{take_at, length-map}
 use Rattle.std.proofs.lemmas.List.Elements.{filter-append}
 
--- there are so many, and no further row is asked for
+-- there are n, and no further row is asked for
 pub kept_enough : {X Y : Type 0} (f : X → Y) (p : X → Bool) (rows : List X) (i count : ℕ) (made : List Y) → made ≡ map f (filter p (take i rows)) → length made ≡ count →
     made ≡ map f (take count (filter p rows))
 kept_enough f p rows i count made made_is many =

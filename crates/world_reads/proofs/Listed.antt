@@ -10,7 +10,7 @@ use Rattle.bank_policy.specs.SetRow.{SetRow}
 use Rattle.policy_check.specs.Soundness.{IsPolicySound, IsSetSound}
 use Rattle.bank_policy.specs.declared.rows.Member.{Member}
 use Rattle.world_reads.specs.Laws.{NextLineFollows}
-use Rattle.world_reads.specs.PolicyListing.{is_before, key_of, kind_of, lines_behind_users, placed_member, policy_rows, set_members}
+use Rattle.world_reads.specs.PolicyListing.{is_before, key_of, kind_of, lines_after_users, placed_member, policy_rows, set_members}
 use Rattle.world_reads.specs.declared.policy_row.PolicyRow.{PolicyRow}
 use Rattle.world_reads.specs.declared.policy_row.PolicyRow.TheVariants as row
 use Rattle.world_reads.specs.declared.policy_row.SetMember.{SetMember}
@@ -41,9 +41,9 @@ holds-at P [] k x all e = cc
 holds-at P (y ∷ ys) zero x all e = let same : y ≡ x = cc in rw (← same) (All-head P y ys all)
 holds-at P (y ∷ ys) (suc k) x all e = holds-at P ys k x (All-tail P y ys all) e
 
-first-behind : (x : PolicyRow) (ys : List PolicyRow) → All (λ y. comes_before x y ≡ true) ys → find (comes_before x) ys ≡ slice_get ys 0
-first-behind x [] all = refl
-first-behind x (y ∷ ys) all = ap (λ b. cond b (Some y) (find (comes_before x) ys)) (All-head (λ z. comes_before x z ≡ true) y ys all)
+first-following : (x : PolicyRow) (ys : List PolicyRow) → All (λ y. comes_before x y ≡ true) ys → find (comes_before x) ys ≡ slice_get ys 0
+first-following x [] all = refl
+first-following x (y ∷ ys) all = ap (λ b. cond b (Some y) (find (comes_before x) ys)) (All-head (λ z. comes_before x z ≡ true) y ys all)
 
 follows : (xs : List PolicyRow) (k : ℕ) (x : PolicyRow) → Ordered xs → slice_get xs k ≡ Some x → find (comes_before x) xs ≡ slice_get xs (suc k)
 follows [] k x order e = cc
@@ -51,7 +51,7 @@ follows (y ∷ ys) zero x order e =
     let same : y ≡ x = cc in
     ap (λ z. find (comes_before z) (y ∷ ys)) (sym same)
     ∙ ap (λ b. cond b (Some y) (find (comes_before y) ys)) (not-before-itself (kind_of (key_of y)) _)
-    ∙ first-behind y ys order.0
+    ∙ first-following y ys order.0
 follows (y ∷ ys) (suc k) x order e =
     ap (λ b. cond b (Some y) (find (comes_before x) ys)) (not-before-turned (kind_of (key_of y)) (kind_of (key_of x)) _ _ (holds-at (λ z. comes_before y z ≡ true) ys k x order.0 e))
     ∙ follows ys k x order.1 e
@@ -118,7 +118,7 @@ also kind xs ys = All-append (λ y. kind < kind_of (key_of y)) xs ys
 same : {X : Type 0} (kind : ℕ) (f : X → PolicyRow) (xs : List X) → ((x : X) → kind_of (key_of (f x)) ≡ kind) → All (λ y. kind_of (key_of y) ≡ kind) (map f xs)
 same kind f xs is = All-map (λ y. kind_of (key_of y) ≡ kind) f xs (λ k d below. is (get_or xs k d))
 
-lines-ordered : (p : PolicyLists) → ArePolicyRowsInOrder p.users p.sets p.relations p.triples p.certifiers → IsPolicySound p → Ordered (map row.User p.users ++ lines_behind_users p)
+lines-ordered : (p : PolicyLists) → ArePolicyRowsInOrder p.users p.sets p.relations p.triples p.certifiers → IsPolicySound p → Ordered (map row.User p.users ++ lines_after_users p)
 lines-ordered p in_order sound =
     let users : Ordered (map row.User p.users) =
     of-kind row.User user_key p.users (λ a b h. before-of-kind 1 (user_key a) (user_key b) h) (rises user_key p.users in_order.users_in_order sound.users.distinct) in

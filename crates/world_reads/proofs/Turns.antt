@@ -14,9 +14,9 @@ listed o rest = option_map_or (λ row. row ∷ rest) o []
 listed-at : {A : Type 0} (f : ℕ → Option A) (a k : ℕ) (o : Option A) (rest : List A) → o ≡ f a → ((j : ℕ) → j < length rest → slice_get rest j ≡ f (a + 1 + j)) →
     k < length (listed o rest) → slice_get (listed o rest) k ≡ f (a + k)
 unfolding listed
-listed-at f a k None rest is behind within = absurd (omega arith)
-listed-at f a zero (Some row) rest is behind within = is ∙ ap f (sym (add-zero a))
-listed-at f a (suc k) (Some row) rest is behind within = behind k (omega arith) ∙ ap f (next-number a k)
+listed-at f a k None rest is following within = absurd (omega arith)
+listed-at f a zero (Some row) rest is following within = is ∙ ap f (sym (add-zero a))
+listed-at f a (suc k) (Some row) rest is following within = following k (omega arith) ∙ ap f (next-number a k)
 
 there-at : {A : Type 0} (f : ℕ → Option A) (a n k : ℕ) → k < length (there (map f (range_with_len a n))) → slice_get (there (map f (range_with_len a n))) k ≡ f (a + k)
 unfolding listed
@@ -26,8 +26,8 @@ there-at f a (suc n) k within = listed-at f a k (f a) (there (map f (range_with_
 listed-end : {A : Type 0} (f : ℕ → Option A) (a n : ℕ) (o : Option A) (rest : List A) → o ≡ f a → (length rest < n → f (a + 1 + length rest) ≡ None) →
     length (listed o rest) < suc n → f (a + length (listed o rest)) ≡ None
 unfolding listed
-listed-end f a n None rest is behind short = ap f (add-zero a) ∙ sym is
-listed-end f a n (Some row) rest is behind short = sym (ap f (next-number a (length rest))) ∙ behind (omega arith)
+listed-end f a n None rest is following short = ap f (add-zero a) ∙ sym is
+listed-end f a n (Some row) rest is following short = sym (ap f (next-number a (length rest))) ∙ following (omega arith)
 
 there-end : {A : Type 0} (f : ℕ → Option A) (a n : ℕ) → length (there (map f (range_with_len a n))) < n → f (a + length (there (map f (range_with_len a n)))) ≡ None
 unfolding listed

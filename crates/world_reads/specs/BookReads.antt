@@ -69,7 +69,7 @@ abbrev pub there : {A : Type 0} → List (Option A) → List A
 there [] = []
 there (o ∷ os) = option_map_or (λ row. row ∷ there os) o []
 
--- the entries of an account that are its turns start, start plus 1 and so on, as long as they are there, at most so many
+-- the entries of an account that are its turns start, start plus 1 and so on, as long as they are there, at most n
 abbrev pub entries_of : WorldLists → ℕ → ℕ → ℕ → List EntryRecord
 entries_of w account start count = there (map (entry_at w account) (range_with_len start count))
 
@@ -98,7 +98,7 @@ is_account_after held after a = nat_lt after a.account && is_account_of held a.a
 abbrev pub accounts_triples : WorldLists → ℕ → ℕ → List HeldTriple
 accounts_triples w user moment = current moment (triples_of w.policy user procedure.Accounts)
 
--- the accounts above a number that the user is shown at a moment, in the order of the World, each row once, at most so many
+-- the accounts above a number that the user is shown at a moment, in the order of the World, each row once, at most n
 abbrev pub shown : WorldLists → ℕ → ℕ → ℕ → ℕ → List AccountRecord
 shown w user after count moment =
     map (account_record_of w) (take count (filter (is_account_after (accounts_triples w user moment) after) w.accounts))

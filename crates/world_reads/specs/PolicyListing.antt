@@ -22,8 +22,8 @@ set_members s = map (placed_member s.set) (enumerate_from 1 s.members)
 
 -- certifiers by user and procedure, members by set and place, relations by procedure and set, and triples by user,
 -- procedure and set: the orders of the policy's lists
-abbrev pub lines_behind_users : PolicyLists → List PolicyRow
-lines_behind_users p =
+abbrev pub lines_after_users : PolicyLists → List PolicyRow
+lines_after_users p =
     map row.Certifier p.certifiers
     ++ (map row.Member (flat_map set_members p.sets)
     ++ (map row.Relation p.relations
@@ -31,7 +31,7 @@ lines_behind_users p =
 
 -- all lines of the policy, the users first, by number
 abbrev pub policy_rows : WorldLists → List PolicyRow
-policy_rows w = map row.User w.policy.users ++ lines_behind_users w.policy
+policy_rows w = map row.User w.policy.users ++ lines_after_users w.policy
 
 -- the key of a line: its kind and its key columns
 abbrev pub key_of : PolicyRow → PolicyKey
@@ -62,16 +62,16 @@ abbrev pub is_before : PolicyKey → PolicyKey → Bool
 is_before a b = nat_lt (kind_of a) (kind_of b) || (kind_of a == kind_of b && nat_lt (columns_of a) (columns_of b))
 
 -- a key is listed after another, or there is no other
-abbrev pub is_behind : Option PolicyKey → PolicyKey → Bool
-is_behind None k = true
-is_behind (Some other) k = is_before other k
+abbrev pub is_after : Option PolicyKey → PolicyKey → Bool
+is_after None k = true
+is_after (Some other) k = is_before other k
 
-abbrev pub is_row_behind : Option PolicyKey → PolicyRow → Bool
-is_row_behind after r = is_behind after (key_of r)
+abbrev pub is_row_after : Option PolicyKey → PolicyRow → Bool
+is_row_after after r = is_after after (key_of r)
 
-abbrev pub is_member_behind : Option PolicyKey → SetMember → Bool
-is_member_behind after m = is_behind after (key.Member m.set m.place)
+abbrev pub is_member_after : Option PolicyKey → SetMember → Bool
+is_member_after after m = is_after after (key.Member m.set m.place)
 
 -- the line of the policy after a key, or the first
 abbrev pub next_policy : WorldLists → Option PolicyKey → Option PolicyRow
-next_policy w after = find (is_row_behind after) (policy_rows w)
+next_policy w after = find (is_row_after after) (policy_rows w)

@@ -1,7 +1,7 @@
 //! A line of the policy of any kind, the key that says which line it is, and the order of keys.
 
 ghost use Rattle.std.specs.Prelude.{◌≡◌};
-ghost use Rattle.world_reads.specs.PolicyListing.{columns_of, is_before, is_behind, key_of, kind_of};
+ghost use Rattle.world_reads.specs.PolicyListing.{columns_of, is_before, is_after, key_of, kind_of};
 
 use bank_policy::{
     Certifier, Member, Relation, Triple, User, certifier_number, relation_number, triple_number,
@@ -112,8 +112,8 @@ impl PolicyKey {
     }
 
     /// Whether the line of this key is listed after that of the other, or there is no other.
-    pub(crate) fn is_behind(self, other: Option<PolicyKey>) -> bool
-        ensures { result ≡ is_behind other self }
+    pub(crate) fn is_after(self, other: Option<PolicyKey>) -> bool
+        ensures { result ≡ is_after other self }
     {
         match other {
             Some(key) => key.is_before(self),

@@ -16,13 +16,13 @@ use Rattle.bank_meaning.specs.Meaning.{json}
 use Rattle.bank_meaning.specs.NamedRelease.{is_same_operation}
 use Rattle.bank_meaning.specs.PolicyRules.{asker, grounds, is_identified, is_released, leave_of, used_by}
 use Rattle.bank_meaning.specs.Requests.{denies, effect, executes, first, repeated, reply_text, rules}
-use Rattle.bank_meaning.specs.Run.{if_allowed, reply, step, told, told_again, unless_repeated}
+use Rattle.bank_meaning.specs.Run.{if_allowed, reply, step, stated, repeated_reply, unless_repeated}
 use Rattle.bank_meaning.specs.Slips.{has_no_room, is_of_another, slip_grounds, slip_named, slip_of}
 use Rattle.bank_meaning.specs.declared.execution.Execution.{Execution}
 use Rattle.bank_meaning.specs.declared.request.Request.{Request}
 use Rattle.bank_meaning.specs.declared.who.Who.{Who}
 use Rattle.bank_meaning.proofs.AllowedRequest.{allowed_by_books}
-use Rattle.bank_meaning.proofs.CountingRelease.{same_told}
+use Rattle.bank_meaning.proofs.CountingRelease.{same_of_test}
 use Rattle.bank_meaning.proofs.KeptReplies.{plain_slips}
 use Rattle.bank_meaning.proofs.LastWordKept.{plain_kept}
 use Rattle.bank_meaning.proofs.SlipSteps.{no_repeat, not_another, out_after}
@@ -44,8 +44,8 @@ use Rattle.year_laws.proofs.UsedAlike.{used_stays}
 
 -- ---- what is made of a request by the first rule against it
 
-reply_is : (w : WorldLists) (q : Request) (f : Option Rule) → repeated w q ≡ None → first w q ≡ f → reply w q ≡ told f (reply_text w q)
-reply_is w q f fresh is = ap (λ o. told_again o (told (first w q) (reply_text w q))) fresh ∙ ap (λ r. told r (reply_text w q)) is
+reply_is : (w : WorldLists) (q : Request) (f : Option Rule) → repeated w q ≡ None → first w q ≡ f → reply w q ≡ stated f (reply_text w q)
+reply_is w q f fresh is = ap (λ o. repeated_reply o (stated (first w q) (reply_text w q))) fresh ∙ ap (λ r. stated r (reply_text w q)) is
 
 step_is : (w : WorldLists) (q : Request) (f : Option Rule) → repeated w q ≡ None → first w q ≡ f → step w q ≡ if_allowed f (effect w q) w
 step_is w q f fresh is = ap (λ o. unless_repeated o (if_allowed (first w q) (effect w q) w) w) fresh ∙ ap (λ r. if_allowed r (effect w q) w) is
@@ -121,7 +121,7 @@ module _ (t : Turn) (old new : WorldLists) (serve : ServeAlike t old new) (who :
 
     abbrev Onward : Option Rule → Option Rule → Type 0
     Onward f g =
-        AreAnsweredAlike t x (told f (reply_text old (executes at_old))) (told g (reply_text new (executes at_new)))
+        AreAnsweredAlike t x (stated f (reply_text old (executes at_old))) (stated g (reply_text new (executes at_new)))
         × ServeAlike t (if_allowed f (effect old (executes at_old)) old) (if_allowed g (effect new (executes at_new)) new)
 
     onward : (f g : Option Rule) → first old (executes at_old) ≡ f → first new (executes at_new) ≡ g → f ≡ g → Onward f g
@@ -160,23 +160,23 @@ module _ (t : Turn) (old new : WorldLists) (serve : ServeAlike t old new) (who :
 
     -- the stored replies are alike
     stored : is_same_operation s.operation (row_of x) ≡ true → IsRepliedAlike t x (json r.reply) (json s.reply)
-    stored is = replied_too t slips.op x (json r.reply) (json s.reply) (sym slips.new_operation ∙ same_told s.operation (row_of x) is) slips.replies
+    stored is = replied_too t slips.op x (json r.reply) (json s.reply) (sym slips.new_operation ∙ same_of_test s.operation (row_of x) is) slips.replies
 
     -- what was kept, where who asks is known and the operation is the same
     abbrev kept : Bool → Bool → SlipRow → Option (List ℕ)
     kept known same y = if known then (if same then Some y.reply else None) else None
 
-    told_alike : (f g : Option Rule) → f ≡ g → AreAnsweredAlike t x (told f (reply_text old (executes at_old))) (told g (reply_text new (executes at_new)))
-    told_alike None None same = replied t old new serve.books.alike x names (signature_of at_new)
-    told_alike (Some a) (Some b) same = let is : a ≡ b = cc in is
-    told_alike None (Some b) same = absurd cc
-    told_alike (Some a) None same = absurd cc
+    stated_alike : (f g : Option Rule) → f ≡ g → AreAnsweredAlike t x (stated f (reply_text old (executes at_old))) (stated g (reply_text new (executes at_new)))
+    stated_alike None None same = replied t old new serve.books.alike x names (signature_of at_new)
+    stated_alike (Some a) (Some b) same = let is : a ≡ b = cc in is
+    stated_alike None (Some b) same = absurd cc
+    stated_alike (Some a) None same = absurd cc
 
-    told_again_alike : (known same : Bool) → (same ≡ true → IsRepliedAlike t x (json r.reply) (json s.reply)) → (f g : Option Rule) → f ≡ g
-        → AreAnsweredAlike t x (told_again (kept known same r) (told f (reply_text old (executes at_old)))) (told_again (kept known same s) (told g (reply_text new (executes at_new))))
-    told_again_alike true true alike f g is = alike refl
-    told_again_alike true false alike f g is = told_alike f g is
-    told_again_alike false same alike f g is = told_alike f g is
+    repeated_alike : (known same : Bool) → (same ≡ true → IsRepliedAlike t x (json r.reply) (json s.reply)) → (f g : Option Rule) → f ≡ g
+        → AreAnsweredAlike t x (repeated_reply (kept known same r) (stated f (reply_text old (executes at_old)))) (repeated_reply (kept known same s) (stated g (reply_text new (executes at_new))))
+    repeated_alike true true alike f g is = alike refl
+    repeated_alike true false alike f g is = stated_alike f g is
+    repeated_alike false same alike f g is = stated_alike f g is
 
     known_same : is_identified (grounds old at_old).standing who.session ≡ is_identified (grounds new at_new).standing who.session
     known_same = ap (λ p. is_identified (option_and_then (λ user. standing p user) who.user) who.session) serve.policy
@@ -193,6 +193,6 @@ module _ (t : Turn) (old new : WorldLists) (serve : ServeAlike t old new) (who :
     -- by the stored replies, or by the same rule
     pub answered_again : first old (executes at_old) ≡ first new (executes at_new) → AreAnsweredAlike t x (reply old (executes at_old)) (reply new (executes at_new))
     answered_again same =
-        carried (AreAnsweredAlike t x) _ _ _ _ (ap (λ o. told_again o (told (first old (executes at_old)) (reply_text old (executes at_old)))) old_kept)
-        (ap (λ o. told_again o (told (first new (executes at_new)) (reply_text new (executes at_new)))) new_kept)
-        (told_again_alike _ (is_same_operation s.operation (row_of x)) stored _ _ same)
+        carried (AreAnsweredAlike t x) _ _ _ _ (ap (λ o. repeated_reply o (stated (first old (executes at_old)) (reply_text old (executes at_old)))) old_kept)
+        (ap (λ o. repeated_reply o (stated (first new (executes at_new)) (reply_text new (executes at_new)))) new_kept)
+        (repeated_alike _ (is_same_operation s.operation (row_of x)) stored _ _ same)

@@ -28,7 +28,7 @@ use Rattle.bank_meaning.specs.Commands.{command_meaning}
 use Rattle.bank_meaning.specs.Listing.{listing_tests}
 use Rattle.bank_meaning.specs.Meaning.{json, plain}
 use Rattle.bank_meaning.specs.Requests.{effect, first, reply_text, rules}
-use Rattle.bank_meaning.specs.Run.{if_allowed, reply, step, told}
+use Rattle.bank_meaning.specs.Run.{if_allowed, reply, step, stated}
 use Rattle.bank_meaning.specs.Sessions.{ending_tests, ending_text, latest, opening_tests, opening_text, session_of}
 use Rattle.bank_meaning.specs.declared.request.Asked.{Asked}
 use Rattle.bank_meaning.specs.declared.request.Asked.TheVariants as asked
@@ -120,19 +120,19 @@ module _ (t : Turn) (old new : WorldLists) (serve : ServeAlike t old new) (who :
 
   pub opening_served : IsServed t old new (asks asked.Opening)
   opening_served =
-      served asked.Opening (ap against_opening serve.policy) (ap (λ p. told (against_opening p) (json (opening_text (latest (asker_in p) + 1)))) serve.policy)
+      served asked.Opening (ap against_opening serve.policy) (ap (λ p. stated (against_opening p) (json (opening_text (latest (asker_in p) + 1)))) serve.policy)
       (policy_stays t old new serve (opened old.policy) (opened new.policy) old.version new.version (ap opened serve.policy) serve.version) refl refl
 
   pub ending_served : IsServed t old new (asks asked.Ending)
   ending_served =
-      served asked.Ending (ap against_ending serve.policy) (ap (λ p. told (against_ending p) (json (ending_text (latest (asker_in p))))) serve.policy)
+      served asked.Ending (ap against_ending serve.policy) (ap (λ p. stated (against_ending p) (json (ending_text (latest (asker_in p))))) serve.policy)
       (policy_stays t old new serve (ended old.policy) (ended new.policy) old.version new.version (ap ended serve.policy) serve.version) refl refl
 
   pub listing_served : IsServed t old new (asks asked.Listing)
   listing_served =
-      served asked.Listing (ap against_listing serve.policy) (ap₂ (λ p text. told (against_listing p) (plain text)) serve.policy (text_same old new serve.policy)) serve refl refl
+      served asked.Listing (ap against_listing serve.policy) (ap₂ (λ p text. stated (against_listing p) (plain text)) serve.policy (text_same old new serve.policy)) serve refl refl
 
   pub command_served : (command : PolicyOp) → IsServed t old new (asks (asked.Command command))
   command_served command =
-      served (asked.Command command) (ap (against_command command) serve.policy) (ap (λ p. told (against_command command p) (reply_text old (asks (asked.Command command)))) serve.policy)
+      served (asked.Command command) (ap (against_command command) serve.policy) (ap (λ p. stated (against_command command p) (reply_text old (asks (asked.Command command)))) serve.policy)
       (change_stays t old new serve _) refl refl

@@ -5,9 +5,9 @@ use Rattle.std.proofs.lemmas.Bool.{false≢true}
 use Rattle.keyed_rows.proofs.Rows.{find-found}
 use Rattle.bank_terms.specs.declared.rule.Rule.{Rule}
 use Rattle.bank_books.specs.WorldLists.{WorldLists}
-use Rattle.bank_meaning.specs.Meaning.{rules_behind_policy}
+use Rattle.bank_meaning.specs.Meaning.{rules_after_policy}
 use Rattle.bank_meaning.specs.Operations.{meaning_of}
-use Rattle.bank_meaning.specs.Run.{if_allowed, told}
+use Rattle.bank_meaning.specs.Run.{if_allowed, stated}
 use Rattle.year_forward.specs.Forward.{forward}
 use Rattle.year_laws.specs.GoesOn.{Turn, op_at_old, turn_of}
 use Rattle.year_laws.specs.JudgedAlike.{NamesAnEntry, begins_anew}
@@ -48,7 +48,7 @@ module _ (p q : Rule → Bool) (same : (r : Rule) → begins_anew r ≡ false �
 module _ (t : Turn) (old new : WorldLists) (stay : StayAlike t old new) (s : SignedOp) (names : NamesAnEntry s.op) (rest : List SignedOp) where
   abbrev OnwardBy : Option Rule → Option Rule → Type 0
   OnwardBy f g =
-      AreAnsweredAlike t s.op (told f (meaning_of (op_at_old t s.op) s.by old).reply) (told g (meaning_of s.op s.by new).reply)
+      AreAnsweredAlike t s.op (stated f (meaning_of (op_at_old t s.op) s.by old).reply) (stated g (meaning_of s.op s.by new).reply)
       × RunAlike t (if_allowed f (meaning_of (op_at_old t s.op) s.by old).effect old) (if_allowed g (meaning_of s.op s.by new).effect new) rest
 
   onward : ((o n : WorldLists) → StayAlike t o n → RunAlike t o n rest) → (f g : Option Rule) → denied_by old (op_at_old t s.op) s.by ≡ f → denied_by new s.op s.by ≡ g → f ≡ g → OnwardBy f g
@@ -59,7 +59,7 @@ module _ (t : Turn) (old new : WorldLists) (stay : StayAlike t old new) (s : Sig
 
   pub stepped : ((o n : WorldLists) → StayAlike t o n → RunAlike t o n rest) → RunAlike t old new (s ∷ rest)
   stepped run =
-      let firsts_are = firsts (λ r. (meaning_of (op_at_old t s.op) s.by old).denies r) (λ r. (meaning_of s.op s.by new).denies r) (judged t old new stay.alike s.op names s.by) rules_behind_policy in (
+      let firsts_are = firsts (λ r. (meaning_of (op_at_old t s.op) s.by old).denies r) (λ r. (meaning_of s.op s.by new).denies r) (judged t old new stay.alike s.op names s.by) rules_after_policy in (
         stay.alike,
         elim firsts_are [
           | inl same ↦ inr (onward run _ _ refl refl same)

@@ -18,8 +18,8 @@ use Rattle.counter_ops.specs.declared.releasable.Releasable.{Releasable}
 use Rattle.counter_ops.specs.declared.releasable.Releasable.TheVariants as form
 use Rattle.rule_tests.specs.Denial.{is_denial}
 use Rattle.bank_meaning.specs.PolicyRules.{Grounds, asker, grounds, is_identified, is_released, leave_of, policy_denies}
-use Rattle.bank_meaning.specs.declared.leave.Leave.{Leave}
-use Rattle.bank_meaning.specs.declared.leave.Leave.TheVariants as leave
+use Rattle.bank_meaning.specs.declared.leave.Authorization.{Authorization}
+use Rattle.bank_meaning.specs.declared.leave.Authorization.TheVariants as leave
 use Rattle.bank_meaning.specs.declared.who.Who.{Who}
 use Rattle.year_laws.specs.GoesOn.{Turn, op_at_old, releasable_at_old}
 
@@ -73,7 +73,7 @@ module _ (who : Who) (moment : ℕ) where
         ∙ ap₂ (λ items most. is_denial r (tests new.policy (procedure_of x) items most who.release (is_released old_grounds))) (same_touched t x) (same_amount t x)
         ∙ ap (λ b. is_denial r (tests new.policy (procedure_of x) (touched x) (amount x) who.release b)) released
 
-    abbrev leave_at : PolicyLists → Procedure → List Cdi → ℕ → Leave
+    abbrev leave_at : PolicyLists → Procedure → List Cdi → ℕ → Authorization
     leave_at p procedure items most = if is_held_for (current moment (triples_of p (asker who) procedure)) items most then leave.Triple else leave.Release who.release
 
     pub same_leave : leave_of old_grounds ≡ leave_of new_grounds

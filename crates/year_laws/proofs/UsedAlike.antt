@@ -17,8 +17,8 @@ use Rattle.book_laws.proofs.ChangedRows.{changed_same, count-changed, each_chang
 use Rattle.world_reads.specs.BookReads.{is_release, release}
 use Rattle.world_reads.specs.PolicyReads.{user_record, user_record_of}
 use Rattle.bank_meaning.specs.PolicyRules.{used_by}
-use Rattle.bank_meaning.specs.declared.leave.Leave.{Leave}
-use Rattle.bank_meaning.specs.declared.leave.Leave.TheVariants as leave
+use Rattle.bank_meaning.specs.declared.leave.Authorization.{Authorization}
+use Rattle.bank_meaning.specs.declared.leave.Authorization.TheVariants as leave
 use Rattle.year_laws.specs.GoesOn.{AreBoth, Turn}
 use Rattle.year_laws.specs.RequestsAlike.{ServeAlike}
 use Rattle.year_laws.specs.StaysAlike.{AddsLast, IsReleaseAlike, StayAlike}
@@ -105,7 +105,7 @@ module _ (t : Turn) (old new : WorldLists) (stay : StayAlike t old new) (k : Rel
   }
 
 -- by whatever authorizes the operation at both
-pub used_stays : (t : Turn) (old new : WorldLists) → StayAlike t old new → (l : Leave) (user : ℕ) → StayAlike t (used_by l user old) (used_by l user new)
+pub used_stays : (t : Turn) (old new : WorldLists) → StayAlike t old new → (l : Authorization) (user : ℕ) → StayAlike t (used_by l user old) (used_by l user new)
 used_stays t old new stay leave.Triple user = stay
 used_stays t old new stay (leave.Release n) user = used_at_both t old new stay (record { user = user; number = n })
 

@@ -38,7 +38,7 @@ AreEach alike [] [] = ⊤
 AreEach alike (old ∷ olds) (new ∷ news) = alike old new × AreEach alike olds news
 AreEach alike _ _ = ⊥
 
--- an account of which so many turns are of the years before
+-- an account of which n turns are of the years before
 pub record IsSameAccount (before : ℕ) (old new : AccountRecord) : Type 0 where
   pub home : old.row.home ≡ new.row.home
   pub floor : old.row.floor ≡ new.row.floor
@@ -52,7 +52,7 @@ pub record IsSameTeller (old new : TellerRecord) : Type 0 where
   pub cash : old.cash ≡ new.cash
   pub holder : old.holder ≡ new.holder
 
--- a branch of which so many entries are of the years before; what its history and its cash lines come to is not looked at
+-- a branch of which n entries are of the years before; what its history and its cash lines come to is not looked at
 pub record IsSameBranch (before : ℕ) (old new : BranchRecord) : Type 0 where
   pub day : old.row.day ≡ new.row.day
   pub balance : old.balance ≡ new.balance

@@ -11,7 +11,7 @@ use Rattle.counter_ops.specs.declared.op.Op.{Op}
 use Rattle.bank_meaning.specs.Meaning.{ReplyText, by_books}
 use Rattle.bank_meaning.specs.Operations.{meaning_of}
 use Rattle.bank_meaning.specs.Order.{AreBooksInOrder}
-use Rattle.bank_meaning.specs.Run.{if_allowed, told}
+use Rattle.bank_meaning.specs.Run.{if_allowed, stated}
 use Rattle.year_forward.specs.Closed.{IsClosed}
 use Rattle.year_forward.specs.Forward.{forward}
 use Rattle.year_laws.specs.GoesOn.{GoesOn, Turn, op_at_old, turn_of}
@@ -32,7 +32,7 @@ denied_by w x by = (by_books (meaning_of x by w)).first
 
 -- what it is answered: its reply, or that rule
 abbrev pub answer : WorldLists → Op → Signature → Result ReplyText Rule
-answer w x by = told (denied_by w x by) (meaning_of x by w).reply
+answer w x by = stated (denied_by w x by) (meaning_of x by w).reply
 
 -- the World after it: its effect, or the World as it was
 abbrev pub after : WorldLists → Op → Signature → WorldLists

@@ -26,7 +26,7 @@ impl TableRow for AccountRecord {
     ghost use Rattle.sql_schema.specs.HeldRows.{all_of_it};
     ghost use Rattle.sql_schema.specs.Readable.{IsReadableAccount};
     ghost use Rattle.sql_schema.specs.Shown.{shown_account};
-    ghost use Rattle.sql_schema.specs.Told.{told_by_key};
+    ghost use Rattle.sql_schema.specs.ReadBack.{stored_by_rowid};
 
     ghost sheet = { in_accounts };
 
@@ -36,7 +36,7 @@ impl TableRow for AccountRecord {
 
     ghost shows = { all_of_it };
 
-    ghost told = { told_by_key 5 };
+    ghost stated = { stored_by_rowid 5 };
 
     ghost shown = { shown_account };
 

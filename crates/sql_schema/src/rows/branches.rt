@@ -5,7 +5,7 @@ ghost use Rattle.sqlite.specs.declared.types.Value.TheVariants.{Int};
 ghost use Rattle.sqlite_value.specs.Order.{column};
 ghost use Rattle.sql_schema.specs.Heads.{IsReadableHead, branch_head};
 ghost use Rattle.sql_schema.specs.Readable.{IsUnread};
-ghost use Rattle.sql_schema.specs.Told.{columns_from};
+ghost use Rattle.sql_schema.specs.ReadBack.{columns_from};
 
 use crate::cells::{cents_at, count_at, number_at};
 use crate::table_row::TableRow;
@@ -33,7 +33,7 @@ impl TableRow for BranchRecord {
     ghost use Rattle.sql_schema.specs.HeldRows.{all_of_it};
     ghost use Rattle.sql_schema.specs.Readable.{IsReadableBranch};
     ghost use Rattle.sql_schema.specs.Shown.{shown_branch};
-    ghost use Rattle.sql_schema.specs.Told.{told_by_key};
+    ghost use Rattle.sql_schema.specs.ReadBack.{stored_by_rowid};
 
     ghost sheet = { in_branches };
 
@@ -43,7 +43,7 @@ impl TableRow for BranchRecord {
 
     ghost shows = { all_of_it };
 
-    ghost told = { told_by_key 12 };
+    ghost stated = { stored_by_rowid 12 };
 
     ghost shown = { shown_branch };
 

@@ -24,7 +24,7 @@ impl TableRow for Certifier {
     ghost use Rattle.sql_schema.specs.Held.Sheet.{certifiers as in_certifiers};
     ghost use Rattle.sql_schema.specs.HeldRows.{all_but_rowid};
     ghost use Rattle.sql_schema.specs.Readable.{IsReadableCertifier};
-    ghost use Rattle.sql_schema.specs.Told.{told_by_columns};
+    ghost use Rattle.sql_schema.specs.ReadBack.{stored_by_columns};
 
     ghost sheet = { in_certifiers };
 
@@ -34,7 +34,7 @@ impl TableRow for Certifier {
 
     ghost shows = { all_but_rowid };
 
-    ghost told = { told_by_columns 2 };
+    ghost stated = { stored_by_columns 2 };
 
     ghost shown = { certifier_cells };
 

@@ -24,7 +24,7 @@ impl TableRow for Proof {
     ghost use Rattle.sql_schema.specs.Held.Sheet.{proofs as in_proofs};
     ghost use Rattle.sql_schema.specs.HeldRows.{all_but_rowid};
     ghost use Rattle.sql_schema.specs.Readable.{IsReadableProof};
-    ghost use Rattle.sql_schema.specs.Told.{told_by_columns};
+    ghost use Rattle.sql_schema.specs.ReadBack.{stored_by_columns};
 
     ghost sheet = { in_proofs };
 
@@ -34,7 +34,7 @@ impl TableRow for Proof {
 
     ghost shows = { all_but_rowid };
 
-    ghost told = { told_by_columns 5 };
+    ghost stated = { stored_by_columns 5 };
 
     ghost shown = { proof_cells };
 

@@ -25,7 +25,7 @@ impl TableRow for EntryRecord {
     ghost use Rattle.sql_schema.specs.Held.Sheet.{entries as in_entries};
     ghost use Rattle.sql_schema.specs.HeldRows.{all_but_rowid};
     ghost use Rattle.sql_schema.specs.Readable.{IsReadableEntry};
-    ghost use Rattle.sql_schema.specs.Told.{told_by_columns};
+    ghost use Rattle.sql_schema.specs.ReadBack.{stored_by_columns};
 
     ghost sheet = { in_entries };
 
@@ -35,7 +35,7 @@ impl TableRow for EntryRecord {
 
     ghost shows = { all_but_rowid };
 
-    ghost told = { told_by_columns 13 };
+    ghost stated = { stored_by_columns 13 };
 
     ghost shown = { entry_cells };
 

@@ -25,7 +25,7 @@ impl TableRow for CashLine {
     ghost use Rattle.sql_schema.specs.Held.Sheet.{lines as in_lines};
     ghost use Rattle.sql_schema.specs.HeldRows.{all_but_rowid};
     ghost use Rattle.sql_schema.specs.Readable.{IsReadableLine};
-    ghost use Rattle.sql_schema.specs.Told.{told_by_columns};
+    ghost use Rattle.sql_schema.specs.ReadBack.{stored_by_columns};
 
     ghost sheet = { in_lines };
 
@@ -35,7 +35,7 @@ impl TableRow for CashLine {
 
     ghost shows = { all_but_rowid };
 
-    ghost told = { told_by_columns 8 };
+    ghost stated = { stored_by_columns 8 };
 
     ghost shown = { line_cells };
 

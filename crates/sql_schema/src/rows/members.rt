@@ -25,7 +25,7 @@ impl TableRow for MemberRow {
     ghost use Rattle.sql_schema.specs.Held.Sheet.{members as in_members};
     ghost use Rattle.sql_schema.specs.HeldRows.{all_but_rowid};
     ghost use Rattle.sql_schema.specs.Readable.{IsReadableMember};
-    ghost use Rattle.sql_schema.specs.Told.{told_by_columns};
+    ghost use Rattle.sql_schema.specs.ReadBack.{stored_by_columns};
 
     ghost sheet = { in_members };
 
@@ -35,7 +35,7 @@ impl TableRow for MemberRow {
 
     ghost shows = { all_but_rowid };
 
-    ghost told = { told_by_columns 5 };
+    ghost stated = { stored_by_columns 5 };
 
     ghost shown = { member_cells };
 

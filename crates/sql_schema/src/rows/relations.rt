@@ -24,7 +24,7 @@ impl TableRow for Relation {
     ghost use Rattle.sql_schema.specs.Held.Sheet.{relations as in_relations};
     ghost use Rattle.sql_schema.specs.HeldRows.{all_but_rowid};
     ghost use Rattle.sql_schema.specs.Readable.{IsReadableRelation};
-    ghost use Rattle.sql_schema.specs.Told.{told_by_columns};
+    ghost use Rattle.sql_schema.specs.ReadBack.{stored_by_columns};
 
     ghost sheet = { in_relations };
 
@@ -34,7 +34,7 @@ impl TableRow for Relation {
 
     ghost shows = { all_but_rowid };
 
-    ghost told = { told_by_columns 3 };
+    ghost stated = { stored_by_columns 3 };
 
     ghost shown = { relation_cells };
 

@@ -26,7 +26,7 @@ impl TableRow for Release {
     ghost use Rattle.sql_schema.specs.Held.Sheet.{releases as in_releases};
     ghost use Rattle.sql_schema.specs.HeldRows.{all_but_rowid};
     ghost use Rattle.sql_schema.specs.Readable.{IsReadableRelease};
-    ghost use Rattle.sql_schema.specs.Told.{told_by_columns};
+    ghost use Rattle.sql_schema.specs.ReadBack.{stored_by_columns};
 
     ghost sheet = { in_releases };
 
@@ -36,7 +36,7 @@ impl TableRow for Release {
 
     ghost shows = { all_but_rowid };
 
-    ghost told = { told_by_columns 15 };
+    ghost stated = { stored_by_columns 15 };
 
     ghost shown = { release_cells };
 

@@ -24,7 +24,7 @@ impl TableRow for u32 {
     ghost use Rattle.sql_schema.specs.HeldRows.{all_of_it};
     ghost use Rattle.sql_schema.specs.Readable.{IsShort};
     ghost use Rattle.sql_schema.specs.Shown.{shown_set};
-    ghost use Rattle.sql_schema.specs.Told.{told_by_key};
+    ghost use Rattle.sql_schema.specs.ReadBack.{stored_by_rowid};
 
     ghost sheet = { in_sets };
 
@@ -34,7 +34,7 @@ impl TableRow for u32 {
 
     ghost shows = { all_of_it };
 
-    ghost told = { told_by_key 0 };
+    ghost stated = { stored_by_rowid 0 };
 
     ghost shown = { shown_set };
 

@@ -25,7 +25,7 @@ impl TableRow for SlipCount {
     ghost use Rattle.sql_schema.specs.HeldRows.{all_of_it};
     ghost use Rattle.sql_schema.specs.Readable.{IsReadableSlipCount};
     ghost use Rattle.sql_schema.specs.Shown.{shown_slip_count};
-    ghost use Rattle.sql_schema.specs.Told.{told_by_key};
+    ghost use Rattle.sql_schema.specs.ReadBack.{stored_by_rowid};
 
     ghost sheet = { in_slip_counts };
 
@@ -35,7 +35,7 @@ impl TableRow for SlipCount {
 
     ghost shows = { all_of_it };
 
-    ghost told = { told_by_key 1 };
+    ghost stated = { stored_by_rowid 1 };
 
     ghost shown = { shown_slip_count };
 

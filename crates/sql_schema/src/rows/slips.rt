@@ -26,7 +26,7 @@ impl TableRow for Slip {
     ghost use Rattle.sql_schema.specs.Held.Sheet.{slips as in_slips};
     ghost use Rattle.sql_schema.specs.HeldRows.{all_but_rowid};
     ghost use Rattle.sql_schema.specs.Readable.{IsReadableSlip};
-    ghost use Rattle.sql_schema.specs.Told.{told_by_columns};
+    ghost use Rattle.sql_schema.specs.ReadBack.{stored_by_columns};
 
     ghost sheet = { in_slips };
 
@@ -36,7 +36,7 @@ impl TableRow for Slip {
 
     ghost shows = { all_but_rowid };
 
-    ghost told = { told_by_columns 12 };
+    ghost stated = { stored_by_columns 12 };
 
     ghost shown = { slip_cells };
 

@@ -27,7 +27,7 @@ impl TableRow for KeptTeller {
     ghost use Rattle.sql_schema.specs.HeldRows.{all_of_it};
     ghost use Rattle.sql_schema.specs.Readable.{IsReadableTeller};
     ghost use Rattle.sql_schema.specs.Shown.{shown_teller};
-    ghost use Rattle.sql_schema.specs.Told.{told_by_key};
+    ghost use Rattle.sql_schema.specs.ReadBack.{stored_by_rowid};
 
     ghost sheet = { in_tellers };
 
@@ -37,7 +37,7 @@ impl TableRow for KeptTeller {
 
     ghost shows = { all_of_it };
 
-    ghost told = { told_by_key 5 };
+    ghost stated = { stored_by_rowid 5 };
 
     ghost shown = { shown_teller };
 

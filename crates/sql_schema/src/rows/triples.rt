@@ -24,7 +24,7 @@ impl TableRow for Triple {
     ghost use Rattle.sql_schema.specs.Held.Sheet.{triples as in_triples};
     ghost use Rattle.sql_schema.specs.HeldRows.{all_but_rowid};
     ghost use Rattle.sql_schema.specs.Readable.{IsReadableTriple};
-    ghost use Rattle.sql_schema.specs.Told.{told_by_columns};
+    ghost use Rattle.sql_schema.specs.ReadBack.{stored_by_columns};
 
     ghost sheet = { in_triples };
 
@@ -34,7 +34,7 @@ impl TableRow for Triple {
 
     ghost shows = { all_but_rowid };
 
-    ghost told = { told_by_columns 6 };
+    ghost stated = { stored_by_columns 6 };
 
     ghost shown = { triple_cells };
 

@@ -27,7 +27,7 @@ impl TableRow for KeptUser {
     ghost use Rattle.sql_schema.specs.HeldRows.{all_of_it};
     ghost use Rattle.sql_schema.specs.Readable.{IsReadableUser};
     ghost use Rattle.sql_schema.specs.Shown.{shown_user};
-    ghost use Rattle.sql_schema.specs.Told.{told_by_key};
+    ghost use Rattle.sql_schema.specs.ReadBack.{stored_by_rowid};
 
     ghost sheet = { in_users };
 
@@ -37,7 +37,7 @@ impl TableRow for KeptUser {
 
     ghost shows = { all_of_it };
 
-    ghost told = { told_by_key 6 };
+    ghost stated = { stored_by_rowid 6 };
 
     ghost shown = { shown_user };
 

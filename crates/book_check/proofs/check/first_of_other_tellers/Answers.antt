@@ -16,6 +16,6 @@ returns c =
     let judged = by_themselves (IsSumOfParts parts) (λ b. b.row.branch) c.branches.result.now c.least_failing.result c.least_failing.ensures in
     let P : List BranchRecord → Type 0 = λ xs. IsFirstFailing (λ branch. (b : BranchRecord) → Contains xs b → b.row.branch ≡ branch → IsSumOfParts parts b) c.least_failing.result in
     reworded (λ branch. (b : BranchRecord) → Contains kept.branches b → b.row.branch ≡ branch → IsSumOfParts parts b) (TellersAgree kept) c.least_failing.result
-    (λ branch each b there told. each b there told ∙ (teller_sum_of_parts kept.tellers parts b.row.branch c.requires.tellers ∙ whole_teller_sum w kept b.row.branch c.requires.in_range))
-    (λ branch each b there told. each b there told ∙ sym (teller_sum_of_parts kept.tellers parts b.row.branch c.requires.tellers ∙ whole_teller_sum w kept b.row.branch c.requires.in_range))
+    (λ branch each b there stated. each b there stated ∙ (teller_sum_of_parts kept.tellers parts b.row.branch c.requires.tellers ∙ whole_teller_sum w kept b.row.branch c.requires.in_range))
+    (λ branch each b there stated. each b there stated ∙ sym (teller_sum_of_parts kept.tellers parts b.row.branch c.requires.tellers ∙ whole_teller_sum w kept b.row.branch c.requires.in_range))
     (subst P c.branches.ensures judged)

@@ -20,10 +20,10 @@ returns-in-None c = (
 pub loop-index-preserved : goal.loop-index-preserved
 loop-index-preserved c =
     let within : c.loop-index.index < length c.args.balances.now = omega arith in
-    let told = c.in-Some.ensures.sum.0 (search rules) in
+    let stated = c.in-Some.ensures.sum.0 (search rules) in
     let more = sum_more c.args.deltas.now c.loop-index.index _ _ none c.loop-index-test.true c.loop-index.invariant.before in
     let after : to_z w64 (of_z w64 c.in-Some.after) ≡ c.in-Some.after = search rules in
     record {
-      before = after ∙ c.in-Some.ensures.value ∙ told ∙ more;
-      amounts = walk_more c.args.deltas.now c.args.balances.now c.loop-index.index _ _ none c.loop-index-test.true within c.loop-index.invariant.before told c.loop-index.invariant.amounts;
+      before = after ∙ c.in-Some.ensures.value ∙ stated ∙ more;
+      amounts = walk_more c.args.deltas.now c.args.balances.now c.loop-index.index _ _ none c.loop-index-test.true within c.loop-index.invariant.before stated c.loop-index.invariant.amounts;
     }

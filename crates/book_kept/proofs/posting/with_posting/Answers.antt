@@ -2,10 +2,10 @@ use Rattle.std.proofs.lemmas.Bool.{false≢true}
 use Rattle.book_kept.proofs.PostingKept.{posting_keeps, still_next}
 use Rattle.book_kept.proofs.posting.with_posting.Goals as goal
 
-pub returns-in_err-moved-clause-told : goal.returns-in_err-moved-clause-told
-returns-in_err-moved-clause-told c next =
+pub returns-in_err-moved-clause-stated : goal.returns-in_err-moved-clause-stated
+returns-in_err-moved-clause-stated c next =
     let line_next = still_next c.args.entry.now c.args.line.now c.args.account.now c.args.teller.now c.args.branch.now c.in_ok-rows.rows next c.in_ok-rows.ensures.moved in
-    absurd (false≢true (c.in_err-moved.ensures.told line_next))
+    absurd (false≢true (c.in_err-moved.ensures.stated line_next))
 
 pub returns-clause-kept : goal.returns-clause-kept
 returns-clause-kept c w can of =

@@ -1,5 +1,5 @@
 use Rattle.book_range.specs.RangeParts.{IsEntryLimited}
-use Rattle.book_range.proofs.Judged.{not_passed, then_tested, told}
+use Rattle.book_range.proofs.Judged.{not_passed, then_tested, stated}
 use Rattle.book_range.proofs.RangeJoined.{entries_joined, entries_named, entry_limits}
 use Rattle.book_range.proofs.range.are_entries_in_range.Goals as goal
 
@@ -8,7 +8,7 @@ returns-then-are_entries_named c =
     let w = c.args.world.now in
     let kept = c.args.kept.now.entries in
     then_tested c.if-are_entries_named.true c.are_entries_named.ensures
-    (told (IsEntryLimited w.entries w.policy.users) c.entries.result.now kept c.are_within_limits.result c.entries.ensures c.are_within_limits.ensures)
+    (stated (IsEntryLimited w.entries w.policy.users) c.entries.result.now kept c.are_within_limits.result c.entries.ensures c.are_within_limits.ensures)
     (entries_joined w kept c.requires.rows.entries)
     (λ all e there. entry_limits w e (all e there))
 

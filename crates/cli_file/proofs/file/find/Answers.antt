@@ -7,7 +7,7 @@ returns-in-Ok g c = record {
   unchanged = c.in-Ok.ensures.left;
   other = c.in-Ok.ensures.other;
   survives = c.in-Ok.ensures.survives;
-  begins = record { works = c.in-Ok.ensures.works.0; no_fault = c.in-Ok.ensures.works.1; no_failure = c.in-Ok.ensures.works.2 };
+  begins = record { works = c.in-Ok.ensures.works.0; no_fault = c.in-Ok.ensures.works.1; no_failure = c.in-Ok.ensures.works.2; known = c.in-Ok.ensures.known };
   bank = found_bank c.args.conn c.in-Ok.store.conn c.in-Ok.ensures.adopts c.in-Ok.ensures.survives;
   older = found_older c.args.conn c.in-Ok.store.conn c.in-Ok.ensures.other c.in-Ok.ensures.survives;
 }
@@ -15,7 +15,7 @@ returns-in-Ok g c = record {
 pub returns-in-Err : goal.returns-in-Err
 returns-in-Err g c = record {
   why = c.in-Err.fault;
-  told_so = c.of_adopting.ensures;
+  is_reported = c.of_adopting.ensures;
   refused = c.in-Err.ensures.refused;
   sound = c.in-Err.ensures.sound;
   named = c.in-Err.ensures.named;

@@ -4,7 +4,7 @@ use Rattle.command_reads.proofs.loads.load_grant.Goals as goal
 
 pub returns : goal.returns
 returns g c = record {
-  told = λ honest w holds.
+  stated = λ honest w holds.
       let read : IsGrantRead w c.args.by c.args.triple.now c.in_ok-certifies.certifies c.in_ok-user.user c.in_ok-is_certifier.is_certifier c.deref.result.now c.deref-2.result.now c.in_ok-count.count = record {
         may_grant = search rules;
         receives = search rules;

@@ -1,4 +1,4 @@
-use Rattle.std.proofs.Common.{◌≡◌, ℕ, List, ◌++◌, true, false, refl, sym, ap, ◌∙◌}
+use Rattle.std.proofs.Common.{◌≡◌, ◌++◌, true, false, refl, sym, ap, ◌∙◌}
 use Rattle.std.proofs.KnownBytes.{Appends-trans}
 use Rattle.http_heads.specs.Framing.{asks_head}
 use Rattle.reports.specs.Report.{text_of}
@@ -11,7 +11,7 @@ returns-in-Err-clause-streamed g c =
     let begun = c.in-Err.ensures.beginning in
     let m = c.args.message.now in
     let contents = c.args.report.contents in (
-      keeps_same _ _ (ap (λ b. g.S.Stands.status b.store) (sym c.release.ensures)),
+      keeps_same _ _ (ap (λ b. g.S.StoreState.status b.store) (sym c.release.ensures)),
       _,
       begun.2,
       tt,
@@ -23,7 +23,7 @@ returns-then-asks_head-clause-streamed g c =
     let m = c.args.message.now in
     let contents = c.args.report.contents in
     let asks : asks_head m.head ≡ true = sym c.asks_head.ensures ∙ c.if-asks_head.true in (
-      keeps_same _ _ (ap (λ b. g.S.Stands.status b.store) (sym c.release-then-asks_head.ensures)),
+      keeps_same _ _ (ap (λ b. g.S.StoreState.status b.store) (sym c.release-then-asks_head.ensures)),
       _,
       c.in-Ok.ensures.whole,
       tt,

@@ -9,8 +9,8 @@ use Rattle.decide.proofs.permit.carry_out.Goals as goal
 pub returns-in_ok-apply_plan-in-Change : goal.returns-in_ok-apply_plan-in-Change
 returns-in_ok-apply_plan-in-Change g c =
     let change = c.in-Change.field-0 in
-    let applied : IsApplied (g.S.Stands.status c.args.permit.bank.now.store) (g.S.Stands.status c.new.result.bank.now.store) change.plan.items None =
-    subst (λ b. IsApplied (g.S.Stands.status c.args.permit.bank.now.store) (g.S.Stands.status b.store) change.plan.items None) (sym c.new.ensures.bank) c.in_ok-apply_plan-in-Change.ensures.applied in (
+    let applied : IsApplied (g.S.StoreState.status c.args.permit.bank.now.store) (g.S.StoreState.status c.new.result.bank.now.store) change.plan.items None =
+    subst (λ b. IsApplied (g.S.StoreState.status c.args.permit.bank.now.store) (g.S.StoreState.status b.store) change.plan.items None) (sym c.new.ensures.bank) c.in_ok-apply_plan-in-Change.ensures.applied in (
       (ap some (sym c.new.ensures.same_reference), λ w. refl, tt),
       record {
         fault = tt;

@@ -7,7 +7,7 @@ use Rattle.http_heads.specs.Judged.{CanBecomeHead}
 use Rattle.http_heads.proofs.LineLemmas.{head_len, not_in_target, nil_of_length}
 use Rattle.http_heads.proofs.judging.judge_lines.Goals as goal
 
--- so many bytes do not hold so many fields
+-- a head of at most `max_head_len` bytes holds fewer than 2731 fields
 fits_room : (room : ℕ) (bytes : List ℕ) → length bytes ≤ max_head_len → 2731 ≤ room → RequestExceeds room bytes → ⊥
 fits_room room bytes short enough (front, rest, split, h, reads, over) =
     omega (arith, head_len h reads.0, ap length reads.1, ap length split, length-append front rest, length-append front (print_end lf), length-append (print_request h) [])

@@ -3,7 +3,7 @@ use Rattle.std.proofs.lemmas.List.{take-append-drop, take_all, length-drop}
 use Rattle.http_heads.proofs.BlankLemmas.{IsBlank}
 use Rattle.http_heads.specs.Stream.{max_head_len}
 use Rattle.http_heads.specs.Seen.{LacksLastLine}
-use Rattle.http_heads.proofs.SeenLemmas.{more_fields, more_ends, ends_behind, no_section, has_room}
+use Rattle.http_heads.proofs.SeenLemmas.{more_fields, more_ends, ends_following, no_section, has_room}
 use Rattle.http_heads.proofs.lines.go_on.Goals as goal
 
 -- all of the lines are those that were seen, and what follows them
@@ -58,5 +58,5 @@ returns-else-seen-clause-exact c =
           rw c.if-seen.false (from_parts IsBlank n lines (more_ends (take n lines) (drop n lines) front new)),
       λ all.
           let ends : IsBlank lines = rw c.if-seen.false at all in
-          c.are_line_ends.ensures.1 (subst IsBlank (sym same) (ends_behind (take n lines) (drop n lines) front (in_parts IsBlank n lines ends))),
+          c.are_line_ends.ensures.1 (subst IsBlank (sym same) (ends_following (take n lines) (drop n lines) front (in_parts IsBlank n lines ends))),
     )

@@ -18,9 +18,9 @@ loop-comma-preserved c =
     let rest = c.loop-comma.rest.now in
     let at = c.in-Some.comma in
     let other : is_close (trim_ows (take at rest)) ≡ false = ap is_close (sym c.trim.ensures) ∙ sym c.if-eq_ignore_case.ensures in
-    let behind : drop (suc at) rest ≡ take (length rest - (at + 1)) (drop (at + 1) rest) = simp (take_rest, add-one) in
+    let following : drop (suc at) rest ≡ take (length rest - (at + 1)) (drop (at + 1) rest) = simp (take_rest, add-one) in
     c.loop-comma.invariant ∙ any_at rest at (search rules) (search rules) (search rules) ∙ ap (λ t. t || list_any is_close (words (drop (suc at) rest))) other
-    ∙ ap (λ l. list_any is_close (words l)) behind
+    ∙ ap (λ l. list_any is_close (words l)) following
 
 pub returns : goal.returns
 returns c =

@@ -19,21 +19,21 @@ returns-in_err-ok c =
 pub returns-in_err-number : goal.returns-in_err-number
 returns-in_err-number c =
     let none : c.from_residual-in_err-number.result ≡ None = search rules in
-    let told : ParsesUnsigned 64 10 c.args.field.now c.parse.result = search rules in
+    let stated : ParsesUnsigned 64 10 c.args.field.now c.parse.result = search rules in
     let failed : false ≡ is_ok c.parse.result = search rules in
     let small : c.args.most < 2 ^ 64 = omega arith in
-    none ∙ none_parsed c.args.most c.args.field.now c.parse.result told c.if-not-starts_number.ensures small failed
+    none ∙ none_parsed c.args.most c.args.field.now c.parse.result stated c.if-not-starts_number.ensures small failed
 
 pub returns-then-number-most : goal.returns-then-number-most
 returns-then-number-most c =
-    let told : ParsesUnsigned 64 10 c.args.field.now c.parse.result = search rules in
+    let stated : ParsesUnsigned 64 10 c.args.field.now c.parse.result = search rules in
     let is : Some c.in_ok-number.number ≡ result_ok c.parse.result = search rules in
     let low : nat_le c.in_ok-number.number c.args.most ≡ true = grind (arith, nat_tests) in
-    sym (cond-true _ _ _ low) ∙ parsed c.args.most c.args.field.now c.parse.result told c.if-not-starts_number.ensures c.in_ok-number.number is
+    sym (cond-true _ _ _ low) ∙ parsed c.args.most c.args.field.now c.parse.result stated c.if-not-starts_number.ensures c.in_ok-number.number is
 
 pub returns-else-number-most : goal.returns-else-number-most
 returns-else-number-most c =
-    let told : ParsesUnsigned 64 10 c.args.field.now c.parse.result = search rules in
+    let stated : ParsesUnsigned 64 10 c.args.field.now c.parse.result = search rules in
     let is : Some c.in_ok-number.number ≡ result_ok c.parse.result = search rules in
     let high : nat_le c.in_ok-number.number c.args.most ≡ false = grind (arith, nat_tests) in
-    sym (cond-false _ _ _ high) ∙ parsed c.args.most c.args.field.now c.parse.result told c.if-not-starts_number.ensures c.in_ok-number.number is
+    sym (cond-false _ _ _ high) ∙ parsed c.args.most c.args.field.now c.parse.result stated c.if-not-starts_number.ensures c.in_ok-number.number is

@@ -7,8 +7,8 @@ use Rattle.list_opening.specs.declared.list_fault.ListName.TheVariants.{Triples}
 use Rattle.list_opening.proofs.ReadLemmas.{bad_said, rows_said}
 use Rattle.list_opening.proofs.reading.read_triples.Goals as goal
 
-pub returns-in-Ok-clause-told : goal.returns-in-Ok-clause-told
-returns-in-Ok-clause-told c =
+pub returns-in-Ok-clause-stated : goal.returns-in-Ok-clause-stated
+returns-in-Ok-clause-stated c =
     let said = rows_said Triples triple_key begun_triples with_triple (λ read. read.1) none_read c.args.text.now c.new.result c.in-Ok.gathered c.new.ensures c.in-Ok.ensures in
     IfOk-weaker c.sorted.result _ _ (λ rows is. said ∙ ap (λ l. Ok (in_order triple_key l)) (sym c.into_rows.ensures) ∙ ap Ok (sym is)) c.sorted.ensures.rows
 

@@ -36,26 +36,26 @@ returns-in_err-is_undone g c =
 
 pub returns : goal.returns
 returns g c = record {
-  told = λ honest w holds.
+  stated = λ honest w holds.
       let honest-partner = c.in_ok-is_undone.ensures.kept.answers.honest honest in
       let honest-entry = c.in_ok-partner.ensures.read.kept.answers.honest honest-partner in
       let honest-branch = c.in_ok-entry.ensures.kept.answers.honest honest-entry in
       let honest-teller = c.in_ok-branch.ensures.kept.answers.honest honest-branch in
       let honest-other = c.in_ok-teller.ensures.kept.answers.honest honest-teller in
       let honest-account = c.in_ok-other.ensures.read.kept.answers.honest honest-other in
-      let account = c.in_ok-account.ensures.told honest-account w holds in
+      let account = c.in_ok-account.ensures.stated honest-account w holds in
       let held-account = c.in_ok-account.ensures.kept.kept w holds in
-      let other = c.in_ok-other.ensures.read.told honest-other w held-account in
+      let other = c.in_ok-other.ensures.read.stated honest-other w held-account in
       let held-other = c.in_ok-other.ensures.read.kept.kept w held-account in
-      let teller = c.in_ok-teller.ensures.told honest-teller w held-other in
+      let teller = c.in_ok-teller.ensures.stated honest-teller w held-other in
       let held-teller = c.in_ok-teller.ensures.kept.kept w held-other in
-      let branch = c.in_ok-branch.ensures.told honest-branch w held-teller in
+      let branch = c.in_ok-branch.ensures.stated honest-branch w held-teller in
       let held-branch = c.in_ok-branch.ensures.kept.kept w held-teller in
-      let entry = c.in_ok-entry.ensures.told honest-entry w held-branch in
+      let entry = c.in_ok-entry.ensures.stated honest-entry w held-branch in
       let held-entry = c.in_ok-entry.ensures.kept.kept w held-branch in
-      let partner = c.in_ok-partner.ensures.read.told honest-partner w held-entry in
+      let partner = c.in_ok-partner.ensures.read.stated honest-partner w held-entry in
       let held-partner = c.in_ok-partner.ensures.read.kept.kept w held-entry in
-      let is_undone = c.in_ok-is_undone.ensures.told honest w held-partner in
+      let is_undone = c.in_ok-is_undone.ensures.stated honest w held-partner in
       c.of.ensures ∙ rw (account, other, teller, branch, partner, entry, is_undone) refl;
   kept = (keeps_then _ _ _ _ (c.in_ok-account.ensures.kept, c.in_ok-account.ensures.counted) (keeps_then _ _ _ _ (c.in_ok-other.ensures.read.kept, c.in_ok-other.ensures.counted) (keeps_then _ _ _ _ (c.in_ok-teller.ensures.kept, c.in_ok-teller.ensures.counted) (keeps_then _ _ _ _ (c.in_ok-branch.ensures.kept, c.in_ok-branch.ensures.counted) (keeps_then _ _ _ _ (c.in_ok-entry.ensures.kept, c.in_ok-entry.ensures.counted) (keeps_then _ _ _ _ (c.in_ok-partner.ensures.read.kept, c.in_ok-partner.ensures.counted) (c.in_ok-is_undone.ensures.kept, c.in_ok-is_undone.ensures.counted))))))).0;
   refused = λ stopped. answered (c.in_ok-account.ensures.refused stopped);

@@ -9,9 +9,9 @@ returns-in_err-rows-clause-denied g c = λ honest w holds some. read_counted _ _
 pub returns-in_err-plan-clause-denied : goal.returns-in_err-plan-clause-denied
 returns-in_err-plan-clause-denied g c = λ honest w holds some.
     let none : first_against_new_account c.in_ok-rows.rows ≡ None = search rules in
-    rows_allow first_against_new_account _ _ (c.in_ok-rows.ensures.told honest w holds) none some
+    rows_allow first_against_new_account _ _ (c.in_ok-rows.ensures.stated honest w holds) none some
 
 pub returns-in_err-text-clause-denied : goal.returns-in_err-text-clause-denied
 returns-in_err-text-clause-denied g c = λ honest w holds some.
     let none : first_against_new_account c.in_ok-rows.rows ≡ None = search rules in
-    rows_allow first_against_new_account _ _ (c.in_ok-rows.ensures.told honest w holds) none some
+    rows_allow first_against_new_account _ _ (c.in_ok-rows.ensures.stated honest w holds) none some

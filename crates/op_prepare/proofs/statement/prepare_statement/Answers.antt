@@ -9,4 +9,4 @@ returns-in_err-row-clause-denied g c = λ honest w holds some. read_counted _ _ 
 pub returns-in_err-contents-clause-denied : goal.returns-in_err-contents-clause-denied
 returns-in_err-contents-clause-denied g c = λ honest w holds some.
     let none : first_against_statement c.in_ok-row.row ≡ None = search rules in
-    rows_allow first_against_statement _ _ (c.in_ok-row.ensures.told (c.counted.ensures.counted.kept.answers.honest honest) w holds) none some
+    rows_allow first_against_statement _ _ (c.in_ok-row.ensures.stated (c.counted.ensures.counted.kept.answers.honest honest) w holds) none some

@@ -24,12 +24,12 @@ returns-in_err-number-clause-value c =
 pub returns-then-number-le-MAX_KEY-clause-value : goal.returns-then-number-le-MAX_KEY-clause-value
 returns-then-number-le-MAX_KEY-clause-value c =
     let parsed : ParsesUnsigned 32 10 c.args.value.now c.parse.result = search rules in
-    let told : Some c.in_ok-number.number ≡ result_ok c.parse.result = search rules in
-    let is = number_parsed _ _ parsed (sym c.if-not-starts_number.ensures) _ told c.if-number-le-MAX_KEY.true in
+    let stated : Some c.in_ok-number.number ≡ result_ok c.parse.result = search rules in
+    let is = number_parsed _ _ parsed (sym c.if-not-starts_number.ensures) _ stated c.if-number-le-MAX_KEY.true in
     ap Some is.1 ∙ sym (cond-true _ _ _ is.0)
 
 pub returns-else-number-le-MAX_KEY-clause-value : goal.returns-else-number-le-MAX_KEY-clause-value
 returns-else-number-le-MAX_KEY-clause-value c =
     let parsed : ParsesUnsigned 32 10 c.args.value.now c.parse.result = search rules in
-    let told : Some c.in_ok-number.number ≡ result_ok c.parse.result = search rules in
-    sym (cond-false _ _ _ (no_number_above _ _ parsed (sym c.if-not-starts_number.ensures) _ told c.if-number-le-MAX_KEY.false))
+    let stated : Some c.in_ok-number.number ≡ result_ok c.parse.result = search rules in
+    sym (cond-false _ _ _ (no_number_above _ _ parsed (sym c.if-not-starts_number.ensures) _ stated c.if-number-le-MAX_KEY.false))

@@ -3,16 +3,16 @@ use Rattle.std.proofs.lemmas.List.{get_or_default}
 use Rattle.bank_books.specs.declared.records.ReleaseCount.{ReleaseCount}
 use Rattle.book_kept.specs.declared.records.KeptUser.{KeptUser}
 use Rattle.book_kept.specs.declared.records.SlipCount.{SlipCount}
-use Rattle.sql_adopt.specs.Told.{count_told, counts_told, releases_at}
+use Rattle.sql_adopt.specs.ReadBack.{count_read, counts_read_back, releases_at}
 use Rattle.sql_adopt.proofs.CountLemmas.{count_more}
 use Rattle.sql_adopt.proofs.counts.counts_of.Goals as goal
 
 -- what was pushed is counted of the row at this place, whatever row is taken past the last
-pushed : (counts : List SlipCount) (users : List KeptUser) (i at : ℕ) (none : SlipCount) (done now : List ReleaseCount) (releases : ℕ) → i < length counts → done ≡ counts_told (take i counts) users → at ≡ length done
-    → releases ≡ releases_at users at → now ≡ done ++ record { user = (get_or counts i none).user; releases = releases; slips = (get_or counts i none).slips } ∷ [] → now ≡ counts_told (take (i + 1) counts) users
+pushed : (counts : List SlipCount) (users : List KeptUser) (i at : ℕ) (none : SlipCount) (done now : List ReleaseCount) (releases : ℕ) → i < length counts → done ≡ counts_read_back (take i counts) users → at ≡ length done
+    → releases ≡ releases_at users at → now ≡ done ++ record { user = (get_or counts i none).user; releases = releases; slips = (get_or counts i none).slips } ∷ [] → now ≡ counts_read_back (take (i + 1) counts) users
 pushed counts users i at none done now releases below so_far place is more =
     let row : SlipCount = get_or counts i none in
-    count_more counts users i at row done now below (get_or_default counts i none row below) so_far place (more ∙ ap (λ n. done ++ count_told n row ∷ []) is)
+    count_more counts users i at row done now below (get_or_default counts i none row below) so_far place (more ∙ ap (λ n. done ++ count_read n row ∷ []) is)
 
 pub loop-row-preserved : goal.loop-row-preserved
 loop-row-preserved c =

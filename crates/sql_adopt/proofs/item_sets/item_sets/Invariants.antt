@@ -1,7 +1,7 @@
 use Rattle.std.proofs.Common.{◌≡◌, List, take}
 use Rattle.bank_policy.specs.SetRow.{SetRow}
 use Rattle.keyed_rows.specs.Ordered.{AreDistinct}
-use Rattle.sql_adopt.specs.Told.{AreSetsOf}
+use Rattle.sql_adopt.specs.ReadBack.{AreSetsOf}
 use Rattle.sql_adopt.proofs.SetLemmas.{AreSoFar}
 use Rattle.sql_adopt.proofs.item_sets.item_sets.Given as goal
 

@@ -10,7 +10,7 @@ loop-row-preserved c =
     let count : c.len.result ≡ length c.loop-row.own.items = omega (arith, c.len.ensures, c.loop-row.own.ok) in
     own_more c.args.set c.args.rows.now c.loop-row.row-index _ c.in-Some.member c.loop-row.own.items c.push.new.self.items c.loop-row-test.true
     (get_or_default c.args.rows.now c.loop-row.row-index _ _ c.loop-row-test.true)
-    (some_is c.placed.result c.in-Some.member _ c.placed.ensures.told c.in-Some.is ∙ ap (λ n. member_row c.args.set (n + 1, c.in-Some.member)) count)
+    (some_is c.placed.result c.in-Some.member _ c.placed.ensures.stated c.in-Some.is ∙ ap (λ n. member_row c.args.set (n + 1, c.in-Some.member)) count)
     c.loop-row.invariant c.in_ok-push-in-Some.ensures.items
 
 pub returns-then-not-is_of-clause-found : goal.returns-then-not-is_of-clause-found

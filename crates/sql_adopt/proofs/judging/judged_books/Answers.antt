@@ -1,7 +1,7 @@
 use Rattle.std.proofs.Common.{◌≡◌, Err, subst}
 use Rattle.bank_books.specs.WorldLists.{WorldLists}
 use Rattle.book_check.specs.Verdict.{IsVerdict}
-use Rattle.sql_adopt.specs.Told.{kept_read, world_read}
+use Rattle.sql_adopt.specs.ReadBack.{kept_read, world_read}
 use Rattle.sql_adopt.proofs.SetLemmas.{some_is}
 use Rattle.sql_adopt.proofs.judging.judged_books.Goals as goal
 

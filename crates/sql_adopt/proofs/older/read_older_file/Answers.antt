@@ -1,17 +1,15 @@
 -- What search finds for itself, asked for here so that a mutant is refused soon.
-use Rattle.std.proofs.Common.{◌≡◌, ◌≢◌, ℕ, Result, Ok, Err, IfErr, IfOk, IsErrAnd, IsTrue, OnOk, rules, subst, sym}
+use Rattle.std.proofs.Common.{◌≡◌, ◌≢◌, ℕ, Result, Ok, Err, IfErr, IfOk, IsErrAnd, IsTrue, OnOk, rules}
 use Rattle.std.specs.Prelude.{IsSome}
 use Rattle.sqlite.specs.Effect.{IsDatabase}
 use Rattle.sqlite.specs.Held.{state}
-use Rattle.sqlite.specs.State.{HasCleanDisk, IsLive}
-use Rattle.sqlite.specs.Tree.{Trees}
 use Rattle.sql_schema.specs.Held.{HoldsSheetsIn}
 use Rattle.sql_schema.specs.Readable.{AreReadable}
 use Rattle.sql_schema.specs.Schema.{newest}
 use Rattle.sql_schema.specs.declared.edition.Edition.{Edition}
 use Rattle.book_kept.specs.Sheets.{Sheets}
 use Rattle.sql_whole.specs.Whole.{HasBankTables}
-use Rattle.sql_adopt.specs.Adopted.{AreFileRows, IsBankFileIn, IsBankRow, IsLeft}
+use Rattle.sql_adopt.specs.Adopted.{AreFileRows, IsBankFileIn, IsBankRow}
 use Rattle.sql_adopt.specs.Older.{BearsNoOther}
 use Rattle.sql_adopt.specs.Refused.{IsOfOther, IsOfStore, IsRefusedIn}
 use Rattle.sql_adopt.proofs.LeftLemmas.{left_with, trees_kept}
@@ -22,37 +20,37 @@ on_ok (Ok x) then is = then is
 on_ok (Err e) then is = tt
 
 pub returns-clause-whole : goal.returns-clause-whole
-returns-clause-whole g c clean e older = told e older.file older.row
+returns-clause-whole g c clean e older = stated e older.file older.row
   where
-    told : (e : Edition) → IsBankFileIn e (state g.S.Store c.args.conn.now) → BearsNoOther e (state g.S.Store c.args.conn.now).now.trees
+    stated : (e : Edition) → IsBankFileIn e (state g.S.Store c.args.conn.now) → BearsNoOther e (state g.S.Store c.args.conn.now).now.trees
         → IfOk c.all_older_rows-rows.result (λ file. (file.edition ≡ e) × AreFileRows e (state g.S.Store c.args.conn.now).now.trees file.rows)
-    told e file bears =
+    stated e file bears =
         let has : HasBankTables e (state g.S.Store c.args.conn.now) = search rules in
         (c.all_older_rows-rows.ensures.whole e bears clean has).0
 
 pub returns-clause-refused : goal.returns-clause-refused
-returns-clause-refused g c clean e older = told e older.older older.file older.row
+returns-clause-refused g c clean e older = stated e older.older older.file older.row
   where
-    told : (e : Edition) → e ≢ newest → IsBankFileIn e (state g.S.Store c.args.conn.now) → BearsNoOther e (state g.S.Store c.args.conn.now).now.trees
+    stated : (e : Edition) → e ≢ newest → IsBankFileIn e (state g.S.Store c.args.conn.now) → BearsNoOther e (state g.S.Store c.args.conn.now).now.trees
         → IfErr c.all_older_rows-rows.result (IsRefusedIn e (state g.S.Store c.args.conn.now).now.trees)
-    told e older file bears =
+    stated e older file bears =
         let has : HasBankTables e (state g.S.Store c.args.conn.now) = search rules in
         c.all_older_rows-rows.ensures.refused e older bears clean has
 
 pub returns-clause-takes : goal.returns-clause-takes
-returns-clause-takes g c clean e older s holds readable = told e older.older older.file older.row s holds readable
+returns-clause-takes g c clean e older s holds readable = stated e older.older older.file older.row s holds readable
   where
-    told : (e : Edition) → e ≢ newest → IsBankFileIn e (state g.S.Store c.args.conn.now) → BearsNoOther e (state g.S.Store c.args.conn.now).now.trees
+    stated : (e : Edition) → e ≢ newest → IsBankFileIn e (state g.S.Store c.args.conn.now) → BearsNoOther e (state g.S.Store c.args.conn.now).now.trees
         → (s : Sheets) → HoldsSheetsIn e (state g.S.Store c.args.conn.now).now.trees s → AreReadable s → IfOk c.all_older_rows-rows.result (λ file. IsSome file.rows.policy) × IfErr c.all_older_rows-rows.result IsOfStore
-    told e older file bears s holds readable =
+    stated e older file bears s holds readable =
         let has : HasBankTables e (state g.S.Store c.args.conn.now) = search rules in
         c.all_older_rows-rows.ensures.takes e older bears clean has s holds readable
 
 pub returns-clause-other : goal.returns-clause-other
-returns-clause-other g c clean other = told other.file other.version other.row
+returns-clause-other g c clean other = stated other.file other.version other.row
   where
-    told : IsBankFileIn newest (state g.S.Store c.args.conn.now) → (version : ℕ) → IsBankRow newest (state g.S.Store c.args.conn.now).now.trees version → IsErrAnd c.all_older_rows-rows.result IsOfOther
-    told file version row =
+    stated : IsBankFileIn newest (state g.S.Store c.args.conn.now) → (version : ℕ) → IsBankRow newest (state g.S.Store c.args.conn.now).now.trees version → IsErrAnd c.all_older_rows-rows.result IsOfOther
+    stated file version row =
         let has : HasBankTables newest (state g.S.Store c.args.conn.now) = search rules in
         c.all_older_rows-rows.ensures.other clean newest has version row
 
@@ -60,19 +58,19 @@ pub returns-clause-left : goal.returns-clause-left
 returns-clause-left g c clean is file =
     let old = state g.S.Store c.args.conn.now in
     let new = state g.S.Store c.all_older_rows-rows.new.conn in
-    let stayed = (c.all_older_rows-rows.ensures.open clean).1 in
+    let stayed = (c.all_older_rows-rows.ensures.read_only.was_open clean).1 in
     let trees : IsTrue new.is_open → new.committed.trees ≡ old.committed.trees =
-    λ is_open. trees_kept old new c.all_older_rows-rows.ensures.survives clean (g.met.S.Store.stays c.all_older_rows-rows.new.conn.store is_open)
+    λ is_open. trees_kept old new c.all_older_rows-rows.ensures.read_only.survives clean (g.met.S.Store.stays c.all_older_rows-rows.new.conn.store is_open)
     (λ db may. g.met.S.Store.settled c.args.conn.now.store db (stayed is_open) may)
     in
     let idle : IsTrue c.is_autocommit-idle.result = search rules in
     left_with is old new file stayed (c.is_autocommit-idle.ensures.settled idle) trees c.schema-schema.ensures.live c.schema-left.ensures.live
 
 pub returns-clause-sound : goal.returns-clause-sound
-returns-clause-sound g c clean e older = told older.file
+returns-clause-sound g c clean e older = stated older.file
   where
-    told : IsBankFileIn e (state g.S.Store c.args.conn.now) → OnOk c.all_older_rows-rows.result (IsDatabase (state g.S.Store c.args.conn.now).now)
-    told file =
+    stated : IsBankFileIn e (state g.S.Store c.args.conn.now) → OnOk c.all_older_rows-rows.result (IsDatabase (state g.S.Store c.args.conn.now).now)
+    stated file =
         let has : HasBankTables e (state g.S.Store c.args.conn.now) = search rules in
         let sound : IsTrue (state g.S.Store c.args.conn.now).is_open → IsDatabase (state g.S.Store c.args.conn.now).now = search rules in
-        on_ok c.all_older_rows-rows.result sound (c.all_older_rows-rows.ensures.open clean).0
+        on_ok c.all_older_rows-rows.result sound (c.all_older_rows-rows.ensures.read_only.was_open clean).0

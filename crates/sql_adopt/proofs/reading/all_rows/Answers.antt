@@ -1,6 +1,6 @@
 use Rattle.std.specs.Prelude.{IfSome, IsSome, ⊤}
 use Rattle.sqlite.specs.Held.{state}
-use Rattle.sql_schema.proofs.StepLemmas.{early, none_ok}
+use Rattle.sql_schema.proofs.StepLemmas.{early}
 use Rattle.sql_whole.specs.BookRows.{AreBookRows}
 use Rattle.sql_whole.specs.PolicyTables.{ArePolicyTables}
 use Rattle.sql_whole.proofs.ReadsLemmas.{done_then, gave_then, readable_then}
@@ -59,32 +59,6 @@ returns-in_err-policy-clause-refused g c clean has =
     let fault = c.in_err-policy.field-0.0 in
     handed_refused c.args.edition s0.now.trees c.from_residual-in_err-policy.result fault c.from_residual-in_err-policy.ensures.1
     (unread_row c.args.edition s0.now.trees c.in_ok-version.version (c.in_ok-version.ensures.whole (early s1 s2 _ c.book_rows.ensures.survives (early s2 s3 _ c.policy_tables.ensures.survives clean)) has).0 fault c.in_err-policy.ensures.beyond)
-
-pub returns-in_err-version-clause-open : goal.returns-in_err-version-clause-open
-returns-in_err-version-clause-open g c clean = (none_ok c.from_residual.result _ c.from_residual.ensures.0, (c.in_err-version.ensures.open clean).1)
-
-pub returns-in_err-books-clause-open : goal.returns-in_err-books-clause-open
-returns-in_err-books-clause-open g c clean =
-    let s1 = state g.S.Store c.bank_version.new.conn in
-    let s2 = state g.S.Store c.book_rows.new.conn in
-    let was_open = (c.in_ok-version.ensures.open (early s1 s2 _ c.book_rows.ensures.survives clean)).0 in
-    (none_ok c.from_residual-in_err-books.result _ c.from_residual-in_err-books.ensures.0, λ _. was_open)
-
-pub returns-in_err-policy-clause-open : goal.returns-in_err-policy-clause-open
-returns-in_err-policy-clause-open g c clean =
-    let s1 = state g.S.Store c.bank_version.new.conn in
-    let s2 = state g.S.Store c.book_rows.new.conn in
-    let s3 = state g.S.Store c.policy_tables.new.conn in
-    let was_open = (c.in_ok-version.ensures.open (early s1 s2 _ c.book_rows.ensures.survives (early s2 s3 _ c.policy_tables.ensures.survives clean))).0 in
-    (none_ok c.from_residual-in_err-policy.result _ c.from_residual-in_err-policy.ensures.0, λ _. was_open)
-
-pub returns-clause-open : goal.returns-clause-open
-returns-clause-open g c clean =
-    let s1 = state g.S.Store c.bank_version.new.conn in
-    let s2 = state g.S.Store c.book_rows.new.conn in
-    let s3 = state g.S.Store c.policy_tables.new.conn in
-    let was_open = (c.in_ok-version.ensures.open (early s1 s2 _ c.book_rows.ensures.survives (early s2 s3 _ c.policy_tables.ensures.survives clean))).0 in
-    (was_open, λ _. was_open)
 
 pub returns-in_err-books-clause-takes : goal.returns-in_err-books-clause-takes
 returns-in_err-books-clause-takes g c clean has s holds readable =

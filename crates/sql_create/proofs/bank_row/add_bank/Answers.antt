@@ -1,4 +1,4 @@
-use Rattle.std.proofs.Common.{◌∷◌, [], Ok, ap, subst}
+use Rattle.std.proofs.Common.{◌∷◌, [], Ok, subst}
 use Rattle.sqlite.specs.Held.{state}
 use Rattle.sqlite.specs.State.{Executes}
 use Rattle.sqlite.specs.declared.types.Value.TheVariants.{Int}

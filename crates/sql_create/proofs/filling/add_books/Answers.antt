@@ -1,30 +1,14 @@
-use Rattle.sql_create.specs.Filled.{with_accounts}
-use Rattle.sqlite.specs.Held.{state}
+use Rattle.std.proofs.Common.{ap}
+use Rattle.sql_schema.proofs.StepChains.{stopped, then_step}
 use Rattle.sql_create.specs.Filled.{with_all, with_branch, with_teller}
-use Rattle.sql_create.proofs.GoesLemmas.{fails_first, fails_on, stepped_on, steps_on, these_stepped}
+use Rattle.sql_create.proofs.GoesLemmas.{step_as}
 use Rattle.sql_create.proofs.filling.add_books.Goals as goal
 
-pub returns-in_err-add_all-clause-steps : goal.returns-in_err-add_all-clause-steps
-returns-in_err-add_all-clause-steps g c =
-    let old = state g.S.Store c.args.tx.now.conn.now in
-    let s1 = state g.S.Store c.add_all.new.tx.conn.now in
-    fails_first old s1 _ _ c.add_all.result c.from_residual.result c.add_all.ensures.steps c.from_residual.ensures.0
+pub returns-in_err-add_all : goal.returns-in_err-add_all
+returns-in_err-add_all g c = record { step = stopped c.from_residual.ensures.0 c.add_all.ensures.step }
 
-pub returns-in_err-add_all-2-clause-steps : goal.returns-in_err-add_all-2-clause-steps
-returns-in_err-add_all-2-clause-steps g c =
-    let old = state g.S.Store c.args.tx.now.conn.now in
-    let s1 = state g.S.Store c.add_all.new.tx.conn.now in
-    let s2 = state g.S.Store c.add_all-2.new.tx.conn.now in
-    fails_on old s1 s2 (with_all with_branch c.args.kept.now.branches) _ _ c.add_all-2.result c.from_residual-in_err-add_all-2.result
-    (these_stepped old s1 with_branch _ _ c.branches.ensures c.in_ok-add_all.ensures.steps)
-    c.add_all-2.ensures.survives c.add_all-2.ensures.steps c.from_residual-in_err-add_all-2.ensures.0
+pub returns-in_err-add_all-2 : goal.returns-in_err-add_all-2
+returns-in_err-add_all-2 g c = record { step = stopped c.from_residual-in_err-add_all-2.ensures.0 (then_step c.in_ok-add_all.ensures.step c.add_all-2.ensures.step) }
 
-pub returns-clause-steps : goal.returns-clause-steps
-returns-clause-steps g c =
-    let old = state g.S.Store c.args.tx.now.conn.now in
-    let s1 = state g.S.Store c.add_all.new.tx.conn.now in
-    let s2 = state g.S.Store c.add_all-2.new.tx.conn.now in
-    let new = state g.S.Store c.add_accounts.new.tx.conn.now in
-    steps_on old s2 new (λ s. (with_all with_teller c.args.kept.now.tellers) ((with_all with_branch c.args.kept.now.branches) s)) (with_accounts c.args.kept.now) c.add_accounts.result
-    (stepped_on old s1 s2 (with_all with_branch c.args.kept.now.branches) (with_all with_teller c.args.kept.now.tellers) (these_stepped old s1 with_branch _ _ c.branches.ensures c.in_ok-add_all.ensures.steps) c.add_all-2.ensures.survives (these_stepped s1 s2 with_teller _ _ c.tellers.ensures c.in_ok-add_all-2.ensures.steps))
-    c.add_accounts.ensures.survives c.add_accounts.ensures.steps
+pub returns : goal.returns
+returns g c = record { step = then_step (then_step (step_as (ap (with_all with_branch) c.branches.ensures) c.in_ok-add_all.ensures.step) (step_as (ap (with_all with_teller) c.tellers.ensures) c.in_ok-add_all-2.ensures.step)) c.add_accounts.ensures.step }

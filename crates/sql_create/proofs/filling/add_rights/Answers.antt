@@ -1,29 +1,14 @@
-use Rattle.sqlite.specs.Held.{state}
+use Rattle.std.proofs.Common.{ap}
+use Rattle.sql_schema.proofs.StepChains.{stopped, then_step}
 use Rattle.sql_create.specs.Filled.{with_all, with_certifier, with_relation, with_triple}
-use Rattle.sql_create.proofs.GoesLemmas.{fails_first, fails_on, stepped_on, steps_on, these_step, these_stepped}
+use Rattle.sql_create.proofs.GoesLemmas.{step_as}
 use Rattle.sql_create.proofs.filling.add_rights.Goals as goal
 
-pub returns-in_err-add_all-clause-steps : goal.returns-in_err-add_all-clause-steps
-returns-in_err-add_all-clause-steps g c =
-    let old = state g.S.Store c.args.tx.now.conn.now in
-    let s1 = state g.S.Store c.add_all.new.tx.conn.now in
-    fails_first old s1 _ _ c.add_all.result c.from_residual.result c.add_all.ensures.steps c.from_residual.ensures.0
+pub returns-in_err-add_all : goal.returns-in_err-add_all
+returns-in_err-add_all g c = record { step = stopped c.from_residual.ensures.0 c.add_all.ensures.step }
 
-pub returns-in_err-add_all-2-clause-steps : goal.returns-in_err-add_all-2-clause-steps
-returns-in_err-add_all-2-clause-steps g c =
-    let old = state g.S.Store c.args.tx.now.conn.now in
-    let s1 = state g.S.Store c.add_all.new.tx.conn.now in
-    let s2 = state g.S.Store c.add_all-2.new.tx.conn.now in
-    fails_on old s1 s2 (with_all with_relation c.args.policy.now.relations) _ _ c.add_all-2.result c.from_residual-in_err-add_all-2.result
-    (these_stepped old s1 with_relation _ _ c.relations.ensures.value c.in_ok-add_all.ensures.steps)
-    c.add_all-2.ensures.survives c.add_all-2.ensures.steps c.from_residual-in_err-add_all-2.ensures.0
+pub returns-in_err-add_all-2 : goal.returns-in_err-add_all-2
+returns-in_err-add_all-2 g c = record { step = stopped c.from_residual-in_err-add_all-2.ensures.0 (then_step c.in_ok-add_all.ensures.step c.add_all-2.ensures.step) }
 
-pub returns-clause-steps : goal.returns-clause-steps
-returns-clause-steps g c =
-    let old = state g.S.Store c.args.tx.now.conn.now in
-    let s1 = state g.S.Store c.add_all.new.tx.conn.now in
-    let s2 = state g.S.Store c.add_all-2.new.tx.conn.now in
-    let new = state g.S.Store c.add_all-3.new.tx.conn.now in
-    steps_on old s2 new (λ s. (with_all with_triple c.args.policy.now.triples) ((with_all with_relation c.args.policy.now.relations) s)) (with_all with_certifier c.args.policy.now.certifiers) c.add_all-3.result
-    (stepped_on old s1 s2 (with_all with_relation c.args.policy.now.relations) (with_all with_triple c.args.policy.now.triples) (these_stepped old s1 with_relation _ _ c.relations.ensures.value c.in_ok-add_all.ensures.steps) c.add_all-2.ensures.survives (these_stepped s1 s2 with_triple _ _ c.triples.ensures.value c.in_ok-add_all-2.ensures.steps))
-    c.add_all-3.ensures.survives (these_step s2 new with_certifier _ _ c.add_all-3.result c.certifiers.ensures.value c.add_all-3.ensures.steps)
+pub returns : goal.returns
+returns g c = record { step = then_step (then_step (step_as (ap (with_all with_relation) c.relations.ensures.value) c.in_ok-add_all.ensures.step) (step_as (ap (with_all with_triple) c.triples.ensures.value) c.in_ok-add_all-2.ensures.step)) (step_as (ap (with_all with_certifier) c.certifiers.ensures.value) c.add_all-3.ensures.step) }

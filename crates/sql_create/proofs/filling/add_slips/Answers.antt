@@ -1,19 +1,11 @@
-use Rattle.sqlite.specs.Held.{state}
+use Rattle.std.proofs.Common.{ap}
+use Rattle.sql_schema.proofs.StepChains.{stopped, then_step}
 use Rattle.sql_create.specs.Filled.{with_all, with_slip, with_slip_count}
-use Rattle.sql_create.proofs.GoesLemmas.{fails_first, steps_on, these_step, these_stepped}
+use Rattle.sql_create.proofs.GoesLemmas.{step_as}
 use Rattle.sql_create.proofs.filling.add_slips.Goals as goal
 
-pub returns-in_err-add_all-clause-steps : goal.returns-in_err-add_all-clause-steps
-returns-in_err-add_all-clause-steps g c =
-    let old = state g.S.Store c.args.tx.now.conn.now in
-    let s1 = state g.S.Store c.add_all.new.tx.conn.now in
-    fails_first old s1 _ _ c.add_all.result c.from_residual.result c.add_all.ensures.steps c.from_residual.ensures.0
+pub returns-in_err-add_all : goal.returns-in_err-add_all
+returns-in_err-add_all g c = record { step = stopped c.from_residual.ensures.0 c.add_all.ensures.step }
 
-pub returns-clause-steps : goal.returns-clause-steps
-returns-clause-steps g c =
-    let old = state g.S.Store c.args.tx.now.conn.now in
-    let s1 = state g.S.Store c.add_all.new.tx.conn.now in
-    let new = state g.S.Store c.add_all-2.new.tx.conn.now in
-    steps_on old s1 new (with_all with_slip c.args.world.now.slips) (with_all with_slip_count c.args.kept.now.users) c.add_all-2.result
-    (these_stepped old s1 with_slip _ _ c.slips.ensures.value c.in_ok-add_all.ensures.steps)
-    c.add_all-2.ensures.survives (these_step s1 new with_slip_count _ _ c.add_all-2.result c.users.ensures c.add_all-2.ensures.steps)
+pub returns : goal.returns
+returns g c = record { step = then_step (step_as (ap (with_all with_slip) c.slips.ensures.value) c.in_ok-add_all.ensures.step) (step_as (ap (with_all with_slip_count) c.users.ensures) c.add_all-2.ensures.step) }

@@ -1,17 +1,10 @@
-use Rattle.sqlite.specs.Held.{state}
-use Rattle.sql_schema.specs.CreateTexts.{create_accounts, create_branches, create_entries, create_tellers}
-use Rattle.sql_create.specs.Blank.{IsBlank, begun}
 use Rattle.sql_create.proofs.CreateLemmas.{accounts_defined, branches_defined, entries_defined, tellers_defined}
-use Rattle.sql_create.proofs.GoesLemmas.{goes_on, goes_then, went_on, went_then}
+use Rattle.sql_create.proofs.GoesLemmas.{made, made_then, makes, makes_then}
 use Rattle.sql_create.proofs.tables.make_books.Goals as goal
 
 pub returns-clause-goes : goal.returns-clause-goes
 returns-clause-goes g c =
-    let old = state g.S.Store c.args.tx.now.conn.now in
-    let s1 = state g.S.Store c.define.new.tx.conn.now in
-    let s2 = state g.S.Store c.define-2.new.tx.conn.now in
-    let s3 = state g.S.Store c.define-3.new.tx.conn.now in
-    let new = state g.S.Store c.define-4.new.tx.conn.now in
-    goes_then old s3 new (IsBlank (begun 7 4)) (IsBlank (begun 10 4)) (IsBlank (begun 11 6)) c.define-4.result
-    (went_then old s2 s3 (IsBlank (begun 7 4)) (IsBlank (begun 9 4)) (IsBlank (begun 10 4)) (went_then old s1 s2 (IsBlank (begun 7 4)) (IsBlank (begun 8 4)) (IsBlank (begun 9 4)) (went_on create_branches _ _ _ branches_defined old s1 c.in_ok-define.ensures.ran) c.define-2.ensures.survives (went_on create_tellers _ _ _ tellers_defined s1 s2 c.in_ok-define-2.ensures.ran)) c.define-3.ensures.survives (went_on create_accounts _ _ _ accounts_defined s2 s3 c.in_ok-define-3.ensures.ran))
-    c.define-4.ensures.survives (goes_on create_entries _ _ _ entries_defined s3 new c.define-4.result c.define-4.ensures.ran)
+    let first = made branches_defined c.in_ok-define.ensures.ran in
+    let second = made_then first c.define-2.ensures.frame.survives (made tellers_defined c.in_ok-define-2.ensures.ran) in
+    let third = made_then second c.define-3.ensures.frame.survives (made accounts_defined c.in_ok-define-3.ensures.ran) in
+    makes_then _ c.define-4.result third c.define-4.ensures.frame.survives (makes entries_defined c.define-4.result c.define-4.ensures.ran)

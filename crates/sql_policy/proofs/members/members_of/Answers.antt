@@ -3,7 +3,7 @@ use Rattle.std.proofs.lemmas.Result.{IfOk-weaker}
 use Rattle.sqlite.specs.Held.{state}
 use Rattle.sql_schema.specs.Held.Sheet.{members as in_members}
 use Rattle.sql_schema.proofs.PickedRows.{passing_fit}
-use Rattle.sql_schema.proofs.StepLemmas.{always_ok, none_ok}
+use Rattle.sql_schema.proofs.StepChains.{read_answered, read_stopped}
 use Rattle.sql_policy.specs.Tests.{is_member_of}
 use Rattle.sql_policy.proofs.MemberLemmas.{members_is, selects_members}
 use Rattle.sql_policy.proofs.members.members_of.Goals as goal
@@ -18,10 +18,8 @@ returns-clause-found g c clean s holds =
     (λ rows shown. selects_members (state g.S.Store c.args.tx.now.conn.now) (state g.S.Store c.listed.new.tx.conn.now) s c.args.set rows holds (rw c.params-to_sql.ensures at shown)) in
     IfOk-weaker c.members_at.result _ _ (λ list is. is ∙ ap (map (λ m. m.member)) (c.deref.ensures.value ∙ rows_are)) c.members_at.ensures
 
-pub returns-clause-steps : goal.returns-clause-steps
-returns-clause-steps g c clean inside s holds =
-    let it = c.in_ok-rows.ensures.steps clean inside s holds in
-    (always_ok c.members_at.result _ it.0, it.1)
+pub returns-clause-reads : goal.returns-clause-reads
+returns-clause-reads g c = read_answered c.in_ok-rows.ensures.reads c.members_at.result
 
-pub returns-in_err-rows-clause-steps : goal.returns-in_err-rows-clause-steps
-returns-in_err-rows-clause-steps g c clean inside s holds = (none_ok c.from_residual.result _ c.from_residual.ensures.0, (c.listed.ensures.steps clean inside s holds).1)
+pub returns-in_err-rows-clause-reads : goal.returns-in_err-rows-clause-reads
+returns-in_err-rows-clause-reads g c = read_stopped c.from_residual.ensures.0 c.listed.ensures.reads

@@ -1,5 +1,5 @@
-use Rattle.sql_schema.proofs.StepLemmas.{none_ok}
+use Rattle.sql_schema.proofs.StepChains.{read_stopped}
 use Rattle.sql_policy.proofs.sets.set_count.Goals as goal
 
-pub returns-in_err-rows-clause-steps : goal.returns-in_err-rows-clause-steps
-returns-in_err-rows-clause-steps g c clean inside s holds = (none_ok c.from_residual.result _ c.from_residual.ensures.0, (c.select_sets.ensures.steps clean inside s holds).1)
+pub returns-in_err-rows-clause-reads : goal.returns-in_err-rows-clause-reads
+returns-in_err-rows-clause-reads g c = read_stopped c.from_residual.ensures.0 c.select_sets.ensures.reads

@@ -1,15 +1,5 @@
-use Rattle.std.proofs.Common.{Ok, subst}
-use Rattle.sqlite.specs.Held.{state}
-use Rattle.sqlite.specs.State.{Executes}
-use Rattle.book_kept.specs.Sheets.{set_row, slip_no}
-use Rattle.sql_schema.proofs.StepLemmas.{write_steps}
-use Rattle.sql_releases.specs.Texts.{set_slip_count_text}
-use Rattle.sql_releases.proofs.SlipCountLemmas.{sets_slip_count}
+use Rattle.sql_releases.specs.SlipCountLaws.{sets_count}
 use Rattle.sql_releases.proofs.slip_counts.set_slip_count.Goals as goal
 
-pub returns-clause-steps : goal.returns-clause-steps
-returns-clause-steps g c clean inside s holds =
-    let old = state g.S.Store c.args.tx.now.conn.now in
-    let new = state g.S.Store c.update_slip_count.new.tx.conn.now in
-    write_steps set_slip_count_text _ old new (Ok c.in_ok-update_slip_count.field-0) (record s { slip_counts = set_row slip_no c.args.count.now s.slip_counts }) (c.in_ok-update_slip_count.ensures.runs clean inside)
-    (λ count h. sets_slip_count old new s c.args.count.now count holds (subst (λ ps. Executes set_slip_count_text ps old new (Ok count)) c.in_ok-cells.ensures.cells h))
+pub set_by-requires-clause-law : goal.set_by-requires-clause-law
+set_by-requires-clause-law g c = sets_count

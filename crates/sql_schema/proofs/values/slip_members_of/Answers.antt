@@ -1,5 +1,5 @@
 use Rattle.std.proofs.Common.{arith, refl, rules}
-use Rattle.sql_schema.specs.Told.{columns_from}
+use Rattle.sql_schema.specs.ReadBack.{columns_from}
 use Rattle.sql_schema.proofs.MemberLemmas.{slip_members}
 use Rattle.sql_schema.proofs.ReadableLemmas.{unread_whole}
 use Rattle.sql_schema.proofs.values.slip_members_of.Goals as goal
@@ -28,8 +28,8 @@ returns-in_err-whole_at-7-clause-unread c = unread_whole 6 (columns_from 3 8 c.a
 pub returns-in_err-whole_at-8-clause-unread : goal.returns-in_err-whole_at-8-clause-unread
 returns-in_err-whole_at-8-clause-unread c = unread_whole 7 (columns_from 3 8 c.args.row.now) c.from_residual-in_err-whole_at-8.result c.in_err-whole_at-8.field-0.0 (omega arith) c.from_residual-in_err-whole_at-8.ensures.1 c.in_err-whole_at-8.ensures.unread
 
-pub returns-clause-told : goal.returns-clause-told
-returns-clause-told c = search rules
+pub returns-clause-stated : goal.returns-clause-stated
+returns-clause-stated c = search rules
 
 pub returns-clause-there : goal.returns-clause-there
-returns-clause-there c r fit is = slip_members c.args.row.now _ r (returns-clause-told c) refl fit is
+returns-clause-there c r fit is = slip_members c.args.row.now _ r (returns-clause-stated c) refl fit is

@@ -1,4 +1,4 @@
-use Rattle.std.proofs.Common.{subst, sym}
+use Rattle.std.proofs.Common.{subst}
 use Rattle.sqlite.specs.Held.{state}
 use Rattle.sql_schema.specs.Held.{HoldsWorld}
 use Rattle.sql_schema.specs.Schema.{schema_of}
@@ -17,5 +17,5 @@ returns-clause-proceeds g c =
     let dropped = subst (λ schema. ProceededBy old mid (HasSchema schema) (HasSchema no_schema)) (whole_left e c.requires.older)
     (subst (λ schema. ProceededBy old mid (HasSchema (left e 14 9 0)) (HasSchema schema)) (none_left e) c.in_ok-drop_tables.ensures.proceeds)
     in
-    proceeds_on old mid new (HasSchema (schema_of e)) (HasSchema no_schema) (λ db. HoldsWorld db c.args.world.now) dropped c.write_bank.ensures.survives c.write_bank.result
+    proceeds_on old mid new (HasSchema (schema_of e)) (HasSchema no_schema) (λ db. HoldsWorld db c.args.world.now) c.write_bank.result dropped c.write_bank.ensures.frame.survives
     (λ clean inside none. c.write_bank.ensures.goes clean inside (record { schema_is = none; empty = tt }))

@@ -1,6 +1,6 @@
-use Rattle.std.proofs.Common.{[], inl, inr, subst, sym, ◌⊎◌}
+use Rattle.std.proofs.Common.{[], inl, inr, subst, sym}
 use Rattle.sqlite.specs.Held.{state}
-use Rattle.sqlite.specs.State.{FailsToQuery, IsRolledBack, IsUnchanged, KeepsCommit}
+use Rattle.sqlite.specs.State.{FailsToQuery}
 use Rattle.sql_schema.proofs.StepLemmas.{fails_kept, kept_back, kept_same}
 use Rattle.sql_whole.specs.Faults.{IsOfDatabase}
 use Rattle.sql_whole.proofs.RefusalLemmas.{of_database}

@@ -5,10 +5,10 @@ use Rattle.sql_schema.specs.Cells.{AnyRow, bank_cells}
 use Rattle.sql_schema.specs.Held.Sheet.{bank as in_bank}
 use Rattle.sql_schema.specs.HeldRows.{all_of_it}
 use Rattle.sql_schema.specs.Schema.{newest}
-use Rattle.sql_whole.specs.BankRow.{IsBankTable, IsToldBy}
+use Rattle.sql_whole.specs.BankRow.{IsBankTable, IsReadFrom}
 use Rattle.sql_whole.specs.Faults.{IsOfDatabase}
 use Rattle.sql_whole.specs.Texts.{all_bank_text}
-use Rattle.sql_schema.specs.Told.{told_by_key}
+use Rattle.sql_schema.specs.ReadBack.{stored_by_rowid}
 use Rattle.sql_whole.proofs.BankRowLemmas.{tells_table}
 use Rattle.sql_whole.proofs.BankWhole.{bank_no, tells_bank}
 use Rattle.sql_schema.proofs.StepLemmas.{handed_on}
@@ -31,8 +31,8 @@ returns-clause-whole g c e clean has =
     let old = state g.S.Store c.args.conn.now in
     let new = state g.S.Store c.shown_rows.new.conn in
     tells_table old new c.in_ok-rows.rows.items c.only_row.result
-    (subst (λ rows. IfOk c.only_row.result (IsToldBy rows)) c.deref.ensures.value c.only_row.ensures.told)
-    (all_answered e all_of_it (told_by_key 2) bank_cells bank_no AnyRow in_bank all_bank_text (tells_bank e) old new c.in_ok-rows.rows.items has (c.in_ok-rows.ensures.shown clean))
+    (subst (λ rows. IfOk c.only_row.result (IsReadFrom rows)) c.deref.ensures.value c.only_row.ensures.stated)
+    (all_answered e all_of_it (stored_by_rowid 2) bank_cells bank_no AnyRow in_bank all_bank_text (tells_bank e) old new c.in_ok-rows.rows.items has (c.in_ok-rows.ensures.shown clean))
     (c.in_ok-rows.ensures.still clean (plain_there e all_bank_text old (tells_bank e).asks.plain has))
 
 pub returns-in_err-rows-clause-there : goal.returns-in_err-rows-clause-there

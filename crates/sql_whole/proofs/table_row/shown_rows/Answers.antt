@@ -14,25 +14,29 @@ returns-in-Ok-clause-still g c clean plain =
       query_kept c.args.sql.now [] old new (Ok c.in-Ok.rows) plain (c.in-Ok.ensures.ok clean) tt,
     )
 
-pub returns-in-Ok-clause-open : goal.returns-in-Ok-clause-open
-returns-in-Ok-clause-open g c clean =
-    query_open c.args.sql.now [] (state g.S.Store c.args.conn.now) (state g.S.Store c.query_all.new.self) (Ok c.in-Ok.rows) (c.in-Ok.ensures.ok clean) tt
-
-pub returns-in-Ok-clause-survives : goal.returns-in-Ok-clause-survives
-returns-in-Ok-clause-survives g c = leaves_none c.requires.0 c.args.sql.now (state g.S.Store c.args.conn.now) (state g.S.Store c.query_all.new.self) c.requires.1 c.query_all.ensures.survives
-
 pub returns-in-Err-clause-still : goal.returns-in-Err-clause-still
 returns-in-Err-clause-still g c clean plain =
     (tt, query_kept c.args.sql.now [] (state g.S.Store c.args.conn.now) (state g.S.Store c.query_all.new.self) (Err c.in-Err.error) plain tt (inl (c.in-Err.ensures.err clean)))
-
-pub returns-in-Err-clause-open : goal.returns-in-Err-clause-open
-returns-in-Err-clause-open g c clean =
-    query_open c.args.sql.now [] (state g.S.Store c.args.conn.now) (state g.S.Store c.query_all.new.self) (Err c.in-Err.error) tt (inl (c.in-Err.ensures.err clean))
 
 pub returns-in-Err-clause-there : goal.returns-in-Err-clause-there
 returns-in-Err-clause-there g c clean e has asks =
     subst IsOfDatabase (sym c.read_fault.ensures)
     (of_database e c.args.sql.now asks c.args.table (state g.S.Store c.args.conn.now) (state g.S.Store c.query_all.new.self) c.in-Err.error has (c.in-Err.ensures.err clean))
 
-pub returns-in-Err-clause-survives : goal.returns-in-Err-clause-survives
-returns-in-Err-clause-survives g c = leaves_none c.requires.0 c.args.sql.now (state g.S.Store c.args.conn.now) (state g.S.Store c.query_all.new.self) c.requires.1 c.query_all.ensures.survives
+pub returns-in-Ok-clause-read_only : goal.returns-in-Ok-clause-read_only
+returns-in-Ok-clause-read_only g c =
+    let old = state g.S.Store c.args.conn.now in
+    let new = state g.S.Store c.query_all.new.self in
+    record {
+      was_open = λ clean. query_open c.args.sql.now [] old new (Ok c.in-Ok.rows) (c.in-Ok.ensures.ok clean) tt;
+      survives = leaves_none c.requires.0 c.args.sql.now old new c.requires.1 c.query_all.ensures.survives;
+    }
+
+pub returns-in-Err-clause-read_only : goal.returns-in-Err-clause-read_only
+returns-in-Err-clause-read_only g c =
+    let old = state g.S.Store c.args.conn.now in
+    let new = state g.S.Store c.query_all.new.self in
+    record {
+      was_open = λ clean. query_open c.args.sql.now [] old new (Err c.in-Err.error) tt (inl (c.in-Err.ensures.err clean));
+      survives = leaves_none c.requires.0 c.args.sql.now old new c.requires.1 c.query_all.ensures.survives;
+    }

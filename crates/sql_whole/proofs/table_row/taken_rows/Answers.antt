@@ -27,18 +27,15 @@ returns-in_err-rows-clause-there g c clean has =
     handed_on c.from_residual.result c.in_err-rows.field-0.0 IsErrorOfDatabase c.from_residual.ensures.1
     (λ table. of_database c.args.edition c.args.sql.now c.requires.asks table (state g.S.Store c.args.conn.now) (state g.S.Store c.query.follows.lender-at-none) c.in_err-rows.field-0.0 has.schema fails)
 
-pub returns-in_err-rows-clause-open : goal.returns-in_err-rows-clause-open
-returns-in_err-rows-clause-open g c clean =
+pub returns-in_err-rows-clause-read_only : goal.returns-in_err-rows-clause-read_only
+returns-in_err-rows-clause-read_only g c =
     let refused = rw c.in_err-rows.was at c.query.follows.holds-at-none in
-    let fails = refused.err clean in (
-      none_ok c.from_residual.result _ c.from_residual.ensures.0,
-      fails_open c.args.sql.now [] (state g.S.Store c.args.conn.now) (state g.S.Store c.query.follows.lender-at-none) c.in_err-rows.field-0.0 fails,
-    )
-
-pub returns-in_err-rows-clause-survives : goal.returns-in_err-rows-clause-survives
-returns-in_err-rows-clause-survives g c =
-    let refused = rw c.in_err-rows.was at c.query.follows.holds-at-none in
-    leaves_none c.args.edition c.args.sql.now (state g.S.Store c.args.conn.now) (state g.S.Store c.query.follows.lender-at-none) c.requires.asks refused.survives
+    let old = state g.S.Store c.args.conn.now in
+    let new = state g.S.Store c.query.follows.lender-at-none in
+    record {
+      was_open = λ clean. (none_ok c.from_residual.result _ c.from_residual.ensures.0, fails_open c.args.sql.now [] old new c.in_err-rows.field-0.0 (refused.err clean));
+      survives = leaves_none c.args.edition c.args.sql.now old new c.requires.asks refused.survives;
+    }
 
 pub rows-init : goal.rows-init
 rows-init g c =
@@ -54,7 +51,7 @@ rows-init g c =
       was_open = λ clean. begun_open g.S.Store c.args.sql.now c.args.conn.now now (made.begun clean);
       taken = λ clean has.
           let b = begun_plain g.S.Store c.args.sql.now [] c.args.conn.now now (plain_there c.args.edition c.args.sql.now old c.requires.asks.plain has) (made.begun clean) in
-          took_none g.S.Store c.args.sql.now now g.T.TableRow.told g.T.TableRow.cells g.T.TableRow.fits c.new-list.result.items none b.0;
+          took_none g.S.Store c.args.sql.now now g.T.TableRow.stated g.T.TableRow.cells g.T.TableRow.fits c.new-list.result.items none b.0;
       still = λ clean has. (begun_plain g.S.Store c.args.sql.now [] c.args.conn.now now (plain_there c.args.edition c.args.sql.now old c.requires.asks.plain has) (made.begun clean)).1;
     }
 
@@ -75,8 +72,8 @@ rows-preserved g c =
       taken = λ clean has.
           let taken = before.taken (omega (arith, moved.survives.clean)) has in
           let on = (rw (c.in_ok-row.was, c.in-Some.is) at (moved.ok clean)) c.args.sql.now [] taken.given taken.answer in
-          subst (λ xs. Taken g.S.Store c.args.sql.now now g.T.TableRow.told g.T.TableRow.cells g.T.TableRow.fits xs) (sym it.4)
-          (took_more g.S.Store c.args.sql.now was now g.T.TableRow.told g.T.TableRow.cells g.T.TableRow.fits c.rows.list.items taken c.in-Some.row.now on it.0 it.1 it.2);
+          subst (λ xs. Taken g.S.Store c.args.sql.now now g.T.TableRow.stated g.T.TableRow.cells g.T.TableRow.fits xs) (sym it.4)
+          (took_more g.S.Store c.args.sql.now was now g.T.TableRow.stated g.T.TableRow.cells g.T.TableRow.fits c.rows.list.items taken c.in-Some.row.now on it.0 it.1 it.2);
       still = λ clean has. unchanged_then old (state g.S.Store was) (state g.S.Store now) (before.still (omega (arith, moved.survives.clean)) has) (rw c.in_ok-row.was at (moved.same clean));
     }
 
@@ -101,7 +98,7 @@ returns-in_default-clause-whole g c clean has =
     let early : HasCleanDisk (state g.S.Store c.rows.rows.conn.now) = omega (arith, moved.survives.clean) in
     let taken = c.rows.invariant.taken early has in
     let shown = (rw (c.in_ok-row.was, c.in_default.is) at (moved.ok late)) c.args.sql.now [] taken.given taken.answer in
-    took_all g.S.Store c.args.edition g.T.TableRow.shows g.T.TableRow.told g.T.TableRow.cells g.T.TableRow.key g.T.TableRow.fits g.T.TableRow.sheet c.args.sql.now c.requires
+    took_all g.S.Store c.args.edition g.T.TableRow.shows g.T.TableRow.stated g.T.TableRow.cells g.T.TableRow.key g.T.TableRow.fits g.T.TableRow.sheet c.args.sql.now c.requires
     c.rows.rows.conn.now (state g.S.Store c.args.conn.now) has (c.rows.invariant.still early has) now c.rows.list.items taken shown
 
 pub returns-in-Err-clause-takes : goal.returns-in-Err-clause-takes
@@ -115,5 +112,5 @@ returns-in-Err-clause-takes g c clean has xs held readable =
     let taken = c.rows.invariant.taken early has in
     let on = (rw (c.in_ok-row.was, c.in-Some.is) at (moved.ok late)) c.args.sql.now [] taken.given taken.answer in
     let still = unchanged_then old was (state g.S.Store now) (c.rows.invariant.still early has) (rw c.in_ok-row.was at (moved.same late)) in
-    took_unread g.S.Store c.args.edition g.T.TableRow.shows g.T.TableRow.told g.T.TableRow.cells g.T.TableRow.key g.T.TableRow.fits g.T.TableRow.sheet c.args.sql.now c.requires
+    took_unread g.S.Store c.args.edition g.T.TableRow.shows g.T.TableRow.stated g.T.TableRow.cells g.T.TableRow.key g.T.TableRow.fits g.T.TableRow.sheet c.args.sql.now c.requires
     now old has still taken.given c.in-Some.row.now on xs held g.T.TableRow.readable readable c.in-Err.fault c.in-Err.ensures.unread

@@ -17,6 +17,6 @@ invariant-rows g l =
       mode : l.fn.conn.in_transaction ≡ false → l.rows.conn.now.in_transaction ≡ false;
       typed : Each g.T.TableRow.readable l.list.items;
       was_open : HasCleanDisk now → IsTrue old.is_open;
-      taken : HasCleanDisk now → HasBankTables l.fn.edition old → Taken g.S.Store l.sql l.rows.conn.now g.T.TableRow.told g.T.TableRow.cells g.T.TableRow.fits l.list.items;
+      taken : HasCleanDisk now → HasBankTables l.fn.edition old → Taken g.S.Store l.sql l.rows.conn.now g.T.TableRow.stated g.T.TableRow.cells g.T.TableRow.fits l.list.items;
       still : HasCleanDisk now → HasBankTables l.fn.edition old → IsUnchanged old now;
     }

@@ -4,7 +4,7 @@ use Rattle.sqlite.specs.State.{Shown}
 use Rattle.sql_schema.specs.Cells.{AnyRow, user_cells}
 use Rattle.sql_schema.specs.Held.Sheet.{users as in_users}
 use Rattle.sql_schema.specs.HeldRows.{all_of_it}
-use Rattle.sql_schema.specs.Told.{told_by_key}
+use Rattle.sql_schema.specs.ReadBack.{stored_by_rowid}
 use Rattle.book_kept.specs.Sheets.{user_no}
 use Rattle.sql_whole.specs.Faults.{IsOfDatabase}
 use Rattle.sql_whole.specs.Tables.{AreUsers}
@@ -24,7 +24,7 @@ returns-in-Ok-clause-whole g c clean has =
     let old = state g.S.Store c.args.conn.now in
     let new = state g.S.Store c.shown_rows.new.conn in
     let still = c.in_ok-rows.ensures.still clean (plain_there e all_users_text old (tells_users e).asks.plain has) in (
-      are_all e all_of_it (told_by_key 6) user_cells user_no AnyRow in_users all_users_text (tells_users e) old new _ c.in-Ok.users.items has
+      are_all e all_of_it (stored_by_rowid 6) user_cells user_no AnyRow in_users all_users_text (tells_users e) old new _ c.in-Ok.users.items has
           (subst (λ rows. Shown all_users_text [] old new rows) (sym c.deref.ensures.value) (c.in_ok-rows.ensures.shown clean)) c.in-Ok.ensures.same c.in-Ok.ensures.fit,
       still.0,
       still.1,
@@ -45,7 +45,7 @@ returns-clause-takes g c clean has s holds readable =
     let new = state g.S.Store c.shown_rows.new.conn in
     for_memory c.in-Err.fault (IsOfDatabase c.refusal.result) c.refusal.ensures
     (λ failed. c.in-Err.ensures.unread failed s.users readable.users
-    (in_order_answered e all_of_it (told_by_key 6) user_cells user_no AnyRow in_users all_users_text (tells_users e) old new _ s.users has (holds in_users)
+    (in_order_answered e all_of_it (stored_by_rowid 6) user_cells user_no AnyRow in_users all_users_text (tells_users e) old new _ s.users has (holds in_users)
     (subst (λ rows. Shown all_users_text [] old new rows) (sym c.deref.ensures.value) (c.in_ok-rows.ensures.shown clean))))
 
 pub returns-in_err-rows-clause-whole : goal.returns-in_err-rows-clause-whole

@@ -1,20 +1,8 @@
-use Rattle.sqlite.specs.Held.{state}
-use Rattle.sql_schema.proofs.StepLemmas.{early, kept_then, none_ok}
+use Rattle.sql_schema.proofs.StepChains.{stopped, then_step}
 use Rattle.sql_writes.proofs.book_writes.put_vault_line.Goals as goal
 
-pub returns-in_err-add_line-clause-steps : goal.returns-in_err-add_line-clause-steps
-returns-in_err-add_line-clause-steps g c clean inside s holds =
-    let s0 = state g.S.Store c.args.tx.now.conn.now in
-    let s1 = state g.S.Store c.add_line.new.tx.conn.now in
-    let x1 = c.add_line.ensures.steps clean inside s holds in
-    (none_ok c.from_residual.result _ c.from_residual.ensures.0, x1.1)
+pub returns-in_err-add_line : goal.returns-in_err-add_line
+returns-in_err-add_line g c = record { step = stopped c.from_residual.ensures.0 c.add_line.ensures.step }
 
-pub returns-clause-steps : goal.returns-clause-steps
-returns-clause-steps g c clean inside s holds =
-    let s0 = state g.S.Store c.args.tx.now.conn.now in
-    let s1 = state g.S.Store c.add_line.new.tx.conn.now in
-    let s2 = state g.S.Store c.set_branch.new.tx.conn.now in
-    let clean1 = early s1 s2 _ c.set_branch.ensures.survives clean in
-    let x1 = c.in_ok-add_line.ensures.steps clean1 inside s holds in
-    let x2 = c.set_branch.ensures.steps clean x1.0.0 _ x1.0.1 in
-    (x2.0, (kept_then s0 s1 s2 x1.1 x2.1))
+pub returns : goal.returns
+returns g c = record { step = then_step c.in_ok-add_line.ensures.step c.set_branch.ensures.step }

@@ -1,15 +1,12 @@
-use Rattle.sql_schema.proofs.StepLemmas.{none_ok}
 use Rattle.sql_writes.proofs.RequiredLemmas.{found_row}
-use Rattle.sql_writes.proofs.ThenLemmas.{on_ok}
+use Rattle.sql_schema.proofs.StepChains.{answered, read_step, stopped}
 use Rattle.sql_writes.proofs.book_writes.slip_count_row.Goals as goal
 
-pub returns-in_err-slip_count_of-clause-steps : goal.returns-in_err-slip_count_of-clause-steps
-returns-in_err-slip_count_of-clause-steps g c clean inside s holds = (none_ok c.from_residual.result _ c.from_residual.ensures.0, (c.slip_count_of.ensures.steps clean inside s holds).1)
+pub returns-in_err-slip_count_of-clause-step : goal.returns-in_err-slip_count_of-clause-step
+returns-in_err-slip_count_of-clause-step g c = stopped c.from_residual.ensures.0 (read_step c.slip_count_of.ensures.reads)
 
-pub returns-clause-told : goal.returns-clause-told
-returns-clause-told g c clean inside s holds = found_row c.in_ok-slip_count_of.field-0 _ c.required.result c.required.ensures (c.in_ok-slip_count_of.ensures.found clean s holds)
+pub returns-clause-stated : goal.returns-clause-stated
+returns-clause-stated g c clean inside s holds = found_row c.in_ok-slip_count_of.field-0 _ c.required.result c.required.ensures (c.in_ok-slip_count_of.ensures.found clean s holds)
 
-pub returns-clause-steps : goal.returns-clause-steps
-returns-clause-steps g c clean inside s holds =
-    let it = c.in_ok-slip_count_of.ensures.steps clean inside s holds in
-    (on_ok c.required.result _ it.0, it.1)
+pub returns-clause-step : goal.returns-clause-step
+returns-clause-step g c = answered (read_step c.in_ok-slip_count_of.ensures.reads) c.required.result

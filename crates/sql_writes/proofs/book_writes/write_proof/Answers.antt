@@ -11,4 +11,4 @@ pub returns-clause-moves : goal.returns-clause-moves
 returns-clause-moves g c =
     let p = c.args.proof.now in
     moves_kept (state g.S.Store c.args.tx.now.conn.now) (state g.S.Store c.add_proof.new.tx.conn.now) (write.Proof p) (proof_sheets p) (λ s. IsFree proof_key s.proofs (proof_key p)) c.add_proof.result
-    (λ w can free. proof_is_kept w p can free) c.add_proof.ensures.steps c.add_proof.ensures.free
+    (λ w can free. proof_is_kept w p can free) c.add_proof.ensures.step.steps c.add_proof.ensures.free

@@ -7,22 +7,19 @@ use Rattle.book_kept.specs.Changes.{release_sheets}
 use Rattle.book_kept.specs.Sheets.{sheets_of, user_no}
 use Rattle.sql_schema.specs.Held.{HoldsTables}
 use Rattle.sql_schema.specs.Held.Sheet.{users as in_users}
-use Rattle.sql_schema.proofs.StepLemmas.{early, kept_then, none_ok, ok_weaker}
+use Rattle.sql_schema.proofs.StepLemmas.{early, kept_then, ok_weaker}
 use Rattle.sql_writes.proofs.KeptLemmas.{kept_held}
 use Rattle.sql_schema.proofs.WorldLemmas.{tables_of}
 use Rattle.sql_writes.proofs.RequiredLemmas.{of_found}
 use Rattle.sql_writes.proofs.SetLemmas.{set_made}
+use Rattle.sql_writes.proofs.ThenLemmas.{moves_stopped}
 use Rattle.sql_writes.proofs.book_writes.write_release.Goals as goal
 
 pub returns-in_err-user-clause-moves : goal.returns-in_err-user-clause-moves
-returns-in_err-user-clause-moves g c clean inside w holds =
-    let s0 = state g.S.Store c.args.tx.now.conn.now in
-    (none_ok c.from_residual.result _ c.from_residual.ensures.0, (c.user_row.ensures.steps clean inside (sheets_of w) (tables_of s0.now w holds)).1)
+returns-in_err-user-clause-moves g c = moves_stopped _ c.from_residual.result c.from_residual.ensures.0 c.user_row.ensures.step
 
 pub returns-in_err-releases-clause-moves : goal.returns-in_err-releases-clause-moves
-returns-in_err-releases-clause-moves g c clean inside w holds =
-    let s0 = state g.S.Store c.args.tx.now.conn.now in
-    (none_ok c.from_residual-in_err-releases.result _ c.from_residual-in_err-releases.ensures.0, (c.user_row.ensures.steps clean inside (sheets_of w) (tables_of s0.now w holds)).1)
+returns-in_err-releases-clause-moves g c = moves_stopped _ c.from_residual-in_err-releases.result c.from_residual-in_err-releases.ensures.0 c.user_row.ensures.step
 
 pub returns-clause-moves : goal.returns-clause-moves
 returns-clause-moves g c clean inside w holds =
@@ -32,11 +29,11 @@ returns-clause-moves g c clean inside w holds =
     let r = c.args.release.now in
     let n = c.in_ok-releases.releases in
     let old = c.in_ok-user.user in
-    let clean1 = early s1 s2 _ c.put_release.ensures.survives clean in
+    let clean1 = early s1 s2 _ c.put_release.ensures.step.survives clean in
     let tables = tables_of s0.now w holds in
-    let x1 = c.in_ok-user.ensures.steps clean1 inside (sheets_of w) tables in
+    let x1 = c.in_ok-user.ensures.step.steps clean1 inside (sheets_of w) tables in
     let found = c.in_ok-user.ensures.found clean1 (sheets_of w) tables in
-    let x2 = c.put_release.ensures.steps clean x1.0.0 (sheets_of w) x1.0.1 in
+    let x2 = c.put_release.ensures.step.steps clean x1.0.0 (sheets_of w) x1.0.1 in
     let made = set_made user_no r.user (λ u. record u { releases = n }) (sheets_of w).users old (record old { releases = n }) (tables.rows in_users).ordered.distinct found refl refl in
     let kept = of_found c.with_release.result n _ c.in_ok-releases.ensures c.with_release.ensures.kept w holds.world.keepable (record { row = old; found = found; count = refl }) in (
       kept_held s2 (write.Release r) (release_sheets r n) w c.put_release.result kept

@@ -5,4 +5,4 @@ use Rattle.sql_writes.proofs.policy_writes.write_certifier.Goals as goal
 
 pub returns-clause-moves : goal.returns-clause-moves
 returns-clause-moves g c =
-    policy_moves (state g.S.Store c.args.tx.now.conn.now) (state g.S.Store c.add_certifier.new.tx.conn.now) (policy.Certifier c.args.certifier.now) c.add_certifier.result c.add_certifier.ensures.steps c.add_certifier.ensures.free
+    policy_moves (state g.S.Store c.args.tx.now.conn.now) (state g.S.Store c.add_certifier.new.tx.conn.now) (policy.Certifier c.args.certifier.now) c.add_certifier.result c.add_certifier.ensures.step.steps c.add_certifier.ensures.free

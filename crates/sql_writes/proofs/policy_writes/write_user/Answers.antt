@@ -13,5 +13,5 @@ returns-clause-moves g c =
     let old = state g.S.Store c.args.tx.now.conn.now in
     let new = state g.S.Store c.put_user.new.tx.conn.now in
     policy_moves old new (policy.User c.args.user.now) c.put_user.result
-    (subst (λ kept. Steps old new (λ s. record s { users = add_row user_no kept s.users; slip_counts = add_row slip_no (record { user = kept.row.user; slips = 0 }) s.slip_counts }) c.put_user.result) c.in_ok-kept.ensures c.put_user.ensures.steps)
+    (subst (λ kept. Steps old new (λ s. record s { users = add_row user_no kept s.users; slip_counts = add_row slip_no (record { user = kept.row.user; slips = 0 }) s.slip_counts }) c.put_user.result) c.in_ok-kept.ensures c.put_user.ensures.step.steps)
     (subst (λ kept. Tells old new (λ s. IsFree user_no s.users (user_no kept)) c.put_user.result) c.in_ok-kept.ensures c.put_user.ensures.free)

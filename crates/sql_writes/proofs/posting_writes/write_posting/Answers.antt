@@ -1,33 +1,47 @@
 use Rattle.std.proofs.Common.{◌∷◌, []}
 use Rattle.sqlite.specs.Held.{state}
-use Rattle.sql_schema.proofs.StepLemmas.{early, kept_then, none_ok}
+use Rattle.sql_schema.proofs.StepLemmas.{always_ok, early, kept_then, none_ok}
 use Rattle.bank_books.specs.declared.row_write.RowWrite.TheVariants as write
 use Rattle.book_kept.specs.Changes.{posting_sheets}
 use Rattle.book_kept.specs.Sheets.{sheets_of}
 use Rattle.sql_writes.proofs.RequiredLemmas.{of_found}
 use Rattle.sql_writes.proofs.KeptLemmas.{all_held}
+use Rattle.sql_writes.proofs.KnownLemmas.{posting_left}
+use Rattle.sql_writes.proofs.ThenLemmas.{known_stopped}
 use Rattle.sql_schema.proofs.WorldLemmas.{tables_of}
 use Rattle.sql_writes.proofs.posting_writes.write_posting.Goals as goal
 
 pub returns-in_err-named-clause-moves : goal.returns-in_err-named-clause-moves
-returns-in_err-named-clause-moves g c clean inside w holds =
-    let s0 = state g.S.Store c.args.tx.now.conn.now in
-    (none_ok c.from_residual.result _ c.from_residual.ensures.0, (c.rows_of_entry.ensures.steps clean inside (sheets_of w) (tables_of s0.now w holds)).1)
+returns-in_err-named-clause-moves g c = known_stopped _ _ c.from_residual.result c.from_residual.ensures.0 c.rows_of_entry.ensures.step
 
 pub returns-in_err-rows-clause-moves : goal.returns-in_err-rows-clause-moves
-returns-in_err-rows-clause-moves g c clean inside w holds =
-    let s0 = state g.S.Store c.args.tx.now.conn.now in
-    (none_ok c.from_residual-in_err-rows.result _ c.from_residual-in_err-rows.ensures.0, (c.rows_of_entry.ensures.steps clean inside (sheets_of w) (tables_of s0.now w holds)).1)
+returns-in_err-rows-clause-moves g c = known_stopped _ _ c.from_residual-in_err-rows.result c.from_residual-in_err-rows.ensures.0 c.rows_of_entry.ensures.step
 
 pub returns-clause-moves : goal.returns-clause-moves
-returns-clause-moves g c clean inside w holds =
+returns-clause-moves g c clean inside w holds known =
     let s0 = state g.S.Store c.args.tx.now.conn.now in
     let s1 = state g.S.Store c.rows_of_entry.new.tx.conn.now in
     let s2 = state g.S.Store c.put_posting.new.tx.conn.now in
-    let clean1 = early s1 s2 _ c.put_posting.ensures.survives clean in
+    let clean1 = early s1 s2 _ c.put_posting.ensures.step.survives clean in
     let tables = tables_of s0.now w holds in
     let rows = c.in_ok-rows.rows in
-    let x1 = c.in_ok-named.ensures.steps clean1 inside (sheets_of w) tables in
-    let kept = of_found c.with_posting.result rows _ c.in_ok-rows.ensures c.with_posting.ensures.kept w holds.world.keepable (c.in_ok-named.ensures.told clean1 inside (sheets_of w) tables) in
-    let x2 = c.put_posting.ensures.steps clean x1.0.0 (sheets_of w) x1.0.1 in
+    let x1 = c.in_ok-named.ensures.step.steps clean1 inside (sheets_of w) tables in
+    let kept = of_found c.with_posting.result rows _ c.in_ok-rows.ensures c.with_posting.ensures.kept w holds.world.keepable (c.in_ok-named.ensures.stated clean1 inside w holds known) in
+    let x2 = c.put_posting.ensures.step.steps clean x1.0.0 (sheets_of w) x1.0.1 in
     (all_held s2 (write.Entry c.args.entry.now ∷ write.Line c.args.line.now ∷ []) (posting_sheets c.args.line.now rows) w c.put_posting.result kept x2.0, kept_then s0 s1 s2 x1.1 x2.1)
+
+pub returns-in_err-named-clause-known : goal.returns-in_err-named-clause-known
+returns-in_err-named-clause-known g c clean inside w holds known = none_ok c.from_residual.result _ c.from_residual.ensures.0
+
+pub returns-in_err-rows-clause-known : goal.returns-in_err-rows-clause-known
+returns-in_err-rows-clause-known g c clean inside w holds known = none_ok c.from_residual-in_err-rows.result _ c.from_residual-in_err-rows.ensures.0
+
+pub returns-clause-known : goal.returns-clause-known
+returns-clause-known g c clean inside w holds known =
+    let s1 = state g.S.Store c.rows_of_entry.new.tx.conn.now in
+    let s2 = state g.S.Store c.put_posting.new.tx.conn.now in
+    let clean1 = early s1 s2 _ c.put_posting.ensures.step.survives clean in
+    let rows = c.in_ok-rows.rows in
+    let of = c.in_ok-named.ensures.stated clean1 inside w holds known in
+    let kept = of_found c.with_posting.result rows _ c.in_ok-rows.ensures c.with_posting.ensures.kept w holds.world.keepable of in
+    always_ok c.put_posting.result _ (c.known_after.ensures _ (posting_left w _ c.args.entry.now c.args.line.now _ _ _ rows of kept.keepable kept.sheets) known.slips)

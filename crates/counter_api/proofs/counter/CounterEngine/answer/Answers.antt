@@ -13,13 +13,13 @@ returns-in_err-write_response-in-Ok-Response-clause-answered g c =
     let done = rw c.in-Ok-Response.field-0-is at c.in-Ok-Response.ensures.done in
     let same = rw c.in-Ok-Response.field-0-is at c.in-Ok-Response.ensures.writer in
     let bytes = framed c.args.message.now c.in-Ok-Response.response in
-    let told : c.from_residual.result ≡ Err Write = search rules in
-    rw told (
+    let stated : c.from_residual.result ≡ Err Write = search rules in
+    rw stated (
       bytes,
       record {
         moment = c.moment-moment.result;
         mark = None;
-        given = record { given = c.moment-moment.ensures.given; same_bank = refl; same_clock = refl; same_gate = refl };
+        given = record { given = c.moment-moment.ensures.given; same_gate = refl };
         handled = begun_of _ _ _ _ c.in-Ok-Response.response done;
       },
       subst (λ t. AppendsBeginning (g.W.Write.contents (stream_of t)) (g.W.Write.contents (stream_of c.write_response.new.writer)) bytes) same c.in_err-write_response-in-Ok-Response.ensures.beginning,
@@ -29,7 +29,7 @@ pub returns-in-Ok-Report-Stopped-clause-answered : goal.returns-in-Ok-Report-Sto
 returns-in-Ok-Report-Stopped-clause-answered g c =
     let done = rw (c.in-Ok-Report-Stopped.field-0-is, c.in-Ok-Report-Stopped.field-0-0-is) at c.in-Ok-Report-Stopped.ensures.done in (
       done.0,
-      record { moment = c.moment-moment.result; mark = None; given = record { given = c.moment-moment.ensures.given; same_bank = refl; same_clock = refl; same_gate = refl }; handled = done.2 },
+      record { moment = c.moment-moment.result; mark = None; given = record { given = c.moment-moment.ensures.given; same_gate = refl }; handled = done.2 },
       all_begun _ _ done.0 done.1,
     )
 
@@ -40,7 +40,7 @@ returns-in-Ok-Report-Broken-clause-answered g c =
       record {
         moment = c.moment-moment.result;
         fault = c.in-Ok-Report-Broken.field-0-0-0;
-        given = record { given = c.moment-moment.ensures.given; same_bank = refl; same_clock = refl; same_gate = refl };
+        given = record { given = c.moment-moment.ensures.given; same_gate = refl };
         report = done.2.report;
         kept = done.2.kept;
         cause = done.2.cause;
@@ -60,7 +60,7 @@ returns-in_ok-write_response-in-Err-clause-answered g c =
       record {
         moment = c.moment-moment.result;
         mark = Some c.in-Err.fault;
-        given = record { given = c.moment-moment.ensures.given; same_bank = refl; same_clock = refl; same_gate = refl };
+        given = record { given = c.moment-moment.ensures.given; same_gate = refl };
         handled = whole_of _ _ _ _ (faulted_parts c.in-Err.fault) c.in-Err.ensures.done;
       },
       subst (λ t. Appends (g.W.Write.contents (stream_of t)) (g.W.Write.contents (stream_of c.write_response-in-Err.new.writer)) bytes) c.in-Err.ensures.writer whole,
@@ -71,13 +71,13 @@ returns-in_err-write_response-in-Err-clause-answered g c =
     let bytes = framed c.args.message.now (faulted_parts c.in-Err.fault) in
     let begun = subst (λ (p : ResponseParts). AppendsBeginning (g.W.Write.contents (stream_of c.handled-outcome.new.writer)) (g.W.Write.contents (stream_of c.write_response-in-Err.new.writer)) (framed c.args.message.now p))
     c.faulted-response.ensures c.in_err-write_response-in-Err.ensures.beginning in
-    let told : c.from_residual-in_err-write_response-in-Err.result ≡ Err Write = search rules in
-    rw told (
+    let stated : c.from_residual-in_err-write_response-in-Err.result ≡ Err Write = search rules in
+    rw stated (
       bytes,
       record {
         moment = c.moment-moment.result;
         mark = Some c.in-Err.fault;
-        given = record { given = c.moment-moment.ensures.given; same_bank = refl; same_clock = refl; same_gate = refl };
+        given = record { given = c.moment-moment.ensures.given; same_gate = refl };
         handled = begun_of _ _ _ _ (faulted_parts c.in-Err.fault) c.in-Err.ensures.done;
       },
       subst (λ t. AppendsBeginning (g.W.Write.contents (stream_of t)) (g.W.Write.contents (stream_of c.write_response-in-Err.new.writer)) bytes) c.in-Err.ensures.writer begun,

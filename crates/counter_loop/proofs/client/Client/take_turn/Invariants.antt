@@ -8,7 +8,8 @@ abbrev pub invariant-loop-self : goal.invariant-loop-self
 invariant-loop-self g l = record {
   reads : Reads g.T.TwoWay.ways l.fn.self l.self;
   same : l.service ≡ l.fn.service;
+  times : l.self.times ≡ l.fn.self.times;
 }
 
 abbrev pub decreases-loop-self : goal.decreases-loop-self
-decreases-loop-self g l = max_message_len - length l.self.inbox
+decreases-loop-self g l = max_message_len - length l.self.connection.held

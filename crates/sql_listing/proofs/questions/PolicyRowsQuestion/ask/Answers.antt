@@ -9,4 +9,4 @@ pub returns-clause-reads : goal.returns-clause-reads
 returns-clause-reads g c =
     reads_inside (state g.S.Store c.args.tx.now.conn.now) (state g.S.Store c.policy_rows.new.tx.conn.now) (λ s rows. rows.items ≡ lines_of s) _ c.policy_rows.result
     (λ w can rows is. is ∙ lines_of_world w)
-    c.policy_rows.ensures.found c.policy_rows.ensures.steps c.policy_rows.ensures.open c.policy_rows.ensures.survives
+    c.policy_rows.ensures.found c.policy_rows.ensures.reads.stays c.policy_rows.ensures.reads.was_open c.policy_rows.ensures.reads.survives

@@ -7,8 +7,8 @@ use Rattle.store_cached.specs.Fresh.{AreFresh, HasRows, IsFirst}
 use Rattle.store_cached.proofs.policy_cache.PolicyCache.recall.Goals as goal
 use Rattle.lru.specs.LruCache.{promoted}
 
-pub returns-clause-told : goal.returns-clause-told
-returns-clause-told c = λ w fresh present.
+pub returns-clause-stated : goal.returns-clause-stated
+returns-clause-stated c = λ w fresh present.
     let there = kept_found c.args.self.now c.args.key c.args.version c.in_ok-kept.kept.now (ap option_copied (sym c.in_ok-kept.was) ∙ c.find.ensures) in
     copy-HasRows w c.args.key c.in_ok-kept.kept.now c.in_ok-rows.rows
     (copied c.in_ok-kept.kept.now c.in_ok-rows.rows c.lent_rows.result c.lent_rows.ensures (sym c.ok.ensures.value ∙ c.in_ok-rows.was))

@@ -11,34 +11,34 @@ returns-then-user-eq0-clause-reads g c = reads_beside _ _ _ _ _ c.triples_of.ens
 
 pub returns-in_err-version-clause-reads : goal.returns-in_err-version-clause-reads
 returns-in_err-version-clause-reads g c =
-    reads_kept _ (g.S.Stands.status c.present_version.new.self.store) _ _ _ _ _ _ c.in_err-version.ensures.reads (search rules) (λ clean w holds suits. suits) (λ clean w holds suits. search rules)
+    reads_kept _ (g.S.StoreState.status c.present_version.new.self.store) _ _ _ _ _ _ c.in_err-version.ensures.reads (search rules) (λ clean w holds suits. suits) (λ clean w holds suits. search rules)
 
 pub returns-in-Some-Triples-clause-reads : goal.returns-in-Some-Triples-clause-reads
 returns-in-Some-Triples-clause-reads g c =
-    reads_kept _ (g.S.Stands.status c.present_version.new.self.store) _ _ _ _ _ _ c.in_ok-version.ensures.reads (search rules)
+    reads_kept _ (g.S.StoreState.status c.present_version.new.self.store) _ _ _ _ _ _ c.in_ok-version.ensures.reads (search rules)
     (λ clean w holds suits. (c.recall.ensures.fresh w suits.0, suits.1))
     (λ clean w holds suits.
-    let told = c.in-Some-Triples.ensures.told w suits.0 (c.in_ok-version.ensures.reads.told clean w holds) in
-    (rw c.in-Some-Triples.field-0-is at told).1)
+    let stated = c.in-Some-Triples.ensures.stated w suits.0 (c.in_ok-version.ensures.reads.stated clean w holds) in
+    (rw c.in-Some-Triples.field-0-is at stated).1)
 
 pub returns-in_err-rows-clause-reads : goal.returns-in_err-rows-clause-reads
 returns-in_err-rows-clause-reads g c =
-    reads_kept _ (g.S.Stands.status c.triples_of-2.new.self) _ _ _ _ _ _
+    reads_kept _ (g.S.StoreState.status c.triples_of-2.new.self) _ _ _ _ _ _
     (reads_then _ _ _ _ _ _ _ c.in_ok-version.ensures.reads (reads_beside _ _ _ _ _ c.in_err-rows.ensures)) (search rules)
     (λ clean w holds suits. (c.recall.ensures.fresh w suits.0, suits.1))
     (λ clean w holds suits. search rules)
 
 pub returns-clause-reads : goal.returns-clause-reads
 returns-clause-reads g c =
-    let read : ReadsRow (cached_status g.S.Stands.status c.args.self.now) (with_kept (g.S.Stands.status c.triples_of-2.new.self) (Suits c.present_version.new.self.known c.remember_triples-kept.new.self)) (Ok c.in_ok-rows.rows) (λ w rows. rc_slice_items rows ≡ triples_of w.policy c.args.user c.args.procedure) =
-    reads_kept _ (g.S.Stands.status c.triples_of-2.new.self) _ _ _ _ _ _
+    let read : ReadsRow (cached_status g.S.StoreState.status c.args.self.now) (with_kept (g.S.StoreState.status c.triples_of-2.new.self) (Suits c.present_version.new.self.known c.remember_triples-kept.new.self)) (Ok c.in_ok-rows.rows) (λ w rows. rc_slice_items rows ≡ triples_of w.policy c.args.user c.args.procedure) =
+    reads_kept _ (g.S.StoreState.status c.triples_of-2.new.self) _ _ _ _ _ _
     (reads_then _ _ _ _ _ _ _ c.in_ok-version.ensures.reads (reads_beside _ _ _ _ _ c.in_ok-rows.ensures)) (search rules)
     (λ clean w holds suits. (
       c.remember_triples-kept.ensures.fresh w (c.recall.ensures.fresh w suits.0)
-          (c.in_ok-version.ensures.reads.told (c.in_ok-rows.ensures.kept.answers.honest clean) w holds)
+          (c.in_ok-version.ensures.reads.stated (c.in_ok-rows.ensures.kept.answers.honest clean) w holds)
           (omega arith)
-          (c.in_ok-rows.ensures.told clean w (c.in_ok-version.ensures.reads.kept.kept w holds).0),
+          (c.in_ok-rows.ensures.stated clean w (c.in_ok-version.ensures.reads.kept.kept w holds).0),
       suits.1,
     ))
-    (λ clean w holds suits. c.in_ok-rows.ensures.told clean w (c.in_ok-version.ensures.reads.kept.kept w holds).0) in
+    (λ clean w holds suits. c.in_ok-rows.ensures.stated clean w (c.in_ok-version.ensures.reads.kept.kept w holds).0) in
     elim c.if-is_err.branch [ goal.then-is_err w ↦ rw w.self-is read | goal.else-is_err w ↦ rw w.self-is read ]

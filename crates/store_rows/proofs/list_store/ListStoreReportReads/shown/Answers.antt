@@ -1,12 +1,12 @@
 use Rattle.std.proofs.Common.{rules, ◌≡◌, IfOk, subst}
 use Rattle.world_reads.specs.BookReads.{shown}
-use Rattle.store_rows.proofs.Counted.{told_still}
+use Rattle.store_rows.proofs.Counted.{still_holds}
 use Rattle.store_rows.proofs.list_store.ListStoreReportReads.shown.Goals as goal
 
 pub returns : goal.returns
 returns c = record {
   read = record {
-    told = λ honest w holds. subst (λ v. IfOk c.counted.result (λ rows. rows.items ≡ shown v c.args.user c.args.after c.args.count c.args.moment)) holds (told_still _ _ c.counted.result c.counted.ensures.ok c.shown-rows.ensures);
+    stated = λ honest w holds. subst (λ v. IfOk c.counted.result (λ rows. rows.items ≡ shown v c.args.user c.args.after c.args.count c.args.moment)) holds (still_holds _ _ c.counted.result c.counted.ensures.ok c.shown-rows.ensures);
     kept = search rules;
     refused = search rules;
     counted = search rules;

@@ -1,18 +1,13 @@
-use Rattle.std.proofs.Common.{◌≡◌, ◌∙◌, ◌==◌, ap, find}
+use Rattle.std.proofs.Common.{◌∙◌, ap}
 use Rattle.std.specs.Prelude.{option_map}
 use Rattle.bank_books.specs.declared.records.BranchRecord.{BranchRecord}
-use Rattle.book_kept.specs.Sheets.{branch_no}
-use Rattle.book_kept.proofs.PlainKept.{rows_are_told}
-use Rattle.sql_schema.proofs.WorldReads.{reads_made, reads_none}
-use Rattle.sqlite.specs.Held.{state}
+use Rattle.book_kept.proofs.PlainKept.{rows_determine_answers}
+use Rattle.store_sql.proofs.StepsLemmas.{made_of, read_refused}
 use Rattle.store_sql.proofs.book_questions.VaultCashQuestion.ask.Goals as goal
 
-pub returns-in-Ok-clause-reads : goal.returns-in-Ok-clause-reads
-returns-in-Ok-clause-reads g c =
-    reads_made (state g.S.Store c.args.tx.now.conn.now) (state g.S.Store c.branch_of.new.tx.conn.now) (λ s. c.in-Ok.found ≡ find (λ r. branch_no r == c.args.self.now.branch) s.branches) _ c.vault_of.result
-    (λ w can is. c.vault_of.ensures ∙ ap (option_map (λ (row : BranchRecord). row.vault)) (is ∙ (rows_are_told w c.args.self.now.branch can).branch))
-    c.in-Ok.ensures.found c.in-Ok.ensures.steps c.in-Ok.ensures.open c.branch_of.ensures.survives
+pub returns-in_err-branch_of-clause-reads : goal.returns-in_err-branch_of-clause-reads
+returns-in_err-branch_of-clause-reads g c = read_refused c.from_residual.ensures.0 c.branch_of.ensures.reads
 
-pub returns-in-Err-clause-reads : goal.returns-in-Err-clause-reads
-returns-in-Err-clause-reads g c =
-    reads_none (state g.S.Store c.args.tx.now.conn.now) (state g.S.Store c.branch_of.new.tx.conn.now) _ c.in-Err.fault c.in-Err.ensures.steps c.in-Err.ensures.open c.branch_of.ensures.survives
+pub returns-clause-reads : goal.returns-clause-reads
+returns-clause-reads g c = made_of _ c.branch_of.ensures.reads c.branch_of.ensures.found c.in_ok-branch_of.was
+    (λ w can is. c.vault_of.ensures ∙ ap (option_map (λ (row : BranchRecord). row.vault)) (is ∙ (rows_determine_answers w c.args.self.now.branch can).branch))

@@ -1,26 +1,15 @@
-use Rattle.std.proofs.Common.{◌≡◌, ◌∙◌, Err, filter, map, rules}
-use Rattle.bank_policy.specs.HeldRows.{is_triple_of}
-use Rattle.sql_policy.specs.HeldRows.{held_in}
+use Rattle.std.proofs.Common.{◌∙◌, rules}
 use Rattle.sql_policy.proofs.WorldLemmas.{triples_of_world}
-use Rattle.money.specs.declared.fault.Fault.{Fault}
-use Rattle.sql_schema.proofs.WorldReads.{reads_none}
-use Rattle.sqlite.specs.Held.{state}
-use Rattle.store_sql.proofs.LentRows.{reads_lent}
+use Rattle.store_sql.proofs.StepsLemmas.{made_inside, read_refused}
 use Rattle.store_sql.proofs.policy_questions.TriplesForQuestion.ask.Goals as goal
 
 pub returns-in_err-rows-clause-reads : goal.returns-in_err-rows-clause-reads
-returns-in_err-rows-clause-reads g c =
-    let is : c.from_residual.result ≡ Err c.in_err-rows.field-0.0 = search rules in
-    rw is (reads_none {E = Fault} (state g.S.Store c.args.tx.now.conn.now) (state g.S.Store c.triples_of.new.tx.conn.now) _ c.in_err-rows.field-0.0 c.in_err-rows.ensures.steps c.in_err-rows.ensures.open c.triples_of.ensures.survives)
+returns-in_err-rows-clause-reads g c = read_refused c.from_residual.ensures.0 c.triples_of.ensures.reads
 
 pub returns-in_err-from_vec-clause-reads : goal.returns-in_err-from_vec-clause-reads
-returns-in_err-from_vec-clause-reads g c =
-    reads_lent (state g.S.Store c.args.tx.now.conn.now) (state g.S.Store c.triples_of.new.tx.conn.now) c.in_ok-rows.rows (λ s. c.in_ok-rows.rows.items ≡ map (held_in s) (filter (is_triple_of c.args.self.now.user c.args.self.now.procedure) s.triples)) _ _
+returns-in_err-from_vec-clause-reads g c = made_inside _ c.triples_of.ensures.reads c.triples_of.ensures.found c.in_ok-rows.was
     (λ w can is. search rules)
-    c.in_ok-rows.ensures.found c.in_ok-rows.ensures.steps c.in_ok-rows.ensures.open c.triples_of.ensures.survives
 
 pub returns-clause-reads : goal.returns-clause-reads
-returns-clause-reads g c =
-    reads_lent (state g.S.Store c.args.tx.now.conn.now) (state g.S.Store c.triples_of.new.tx.conn.now) c.in_ok-rows.rows (λ s. c.in_ok-rows.rows.items ≡ map (held_in s) (filter (is_triple_of c.args.self.now.user c.args.self.now.procedure) s.triples)) _ _
+returns-clause-reads g c = made_inside _ c.triples_of.ensures.reads c.triples_of.ensures.found c.in_ok-rows.was
     (λ w can is. c.in_ok-from_vec.ensures ∙ is ∙ triples_of_world w can.policy.sets.distinct c.args.self.now.user c.args.self.now.procedure)
-    c.in_ok-rows.ensures.found c.in_ok-rows.ensures.steps c.in_ok-rows.ensures.open c.triples_of.ensures.survives

@@ -1,16 +1,10 @@
-use Rattle.std.proofs.Common.{◌≡◌, ◌==◌, find}
-use Rattle.sqlite.specs.Held.{state}
-use Rattle.book_kept.specs.Sheets.{user_no}
 use Rattle.store_sql.proofs.PolicyLemmas.{user_is}
-use Rattle.sql_schema.proofs.WorldReads.{reads_made, reads_none}
+use Rattle.store_sql.proofs.StepsLemmas.{made_of, read_refused}
 use Rattle.store_sql.proofs.policy_questions.UserRowQuestion.ask.Goals as goal
 
-pub returns-in-Ok-clause-reads : goal.returns-in-Ok-clause-reads
-returns-in-Ok-clause-reads g c =
-    reads_made (state g.S.Store c.args.tx.now.conn.now) (state g.S.Store c.user_of.new.tx.conn.now) (λ s. c.in-Ok.found ≡ find (λ u. user_no u == c.args.self.now.user) s.users) _ c.record_of.result
-    (λ w can is. user_is w c.args.self.now.user can c.in-Ok.found c.record_of.result c.record_of.ensures is)
-    c.in-Ok.ensures.found c.in-Ok.ensures.steps c.in-Ok.ensures.open c.user_of.ensures.survives
+pub returns-in_err-user_of-clause-reads : goal.returns-in_err-user_of-clause-reads
+returns-in_err-user_of-clause-reads g c = read_refused c.from_residual.ensures.0 c.user_of.ensures.reads
 
-pub returns-in-Err-clause-reads : goal.returns-in-Err-clause-reads
-returns-in-Err-clause-reads g c =
-    reads_none (state g.S.Store c.args.tx.now.conn.now) (state g.S.Store c.user_of.new.tx.conn.now) _ c.in-Err.fault c.in-Err.ensures.steps c.in-Err.ensures.open c.user_of.ensures.survives
+pub returns-clause-reads : goal.returns-clause-reads
+returns-clause-reads g c = made_of _ c.user_of.ensures.reads c.user_of.ensures.found c.in_ok-user_of.was
+    (λ w can is. user_is w c.args.self.now.user can c.in_ok-user_of.field-0 c.record_of.result c.record_of.ensures is)

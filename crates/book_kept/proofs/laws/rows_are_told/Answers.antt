@@ -1,5 +1,0 @@
-use Rattle.book_kept.proofs.PlainKept as proven
-use Rattle.book_kept.proofs.laws.rows_are_told.Goals as goal
-
-pub returns : goal.returns
-returns c = proven.rows_are_told

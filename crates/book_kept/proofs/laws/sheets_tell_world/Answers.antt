@@ -1,5 +1,0 @@
-use Rattle.book_kept.proofs.SheetsTell as proven
-use Rattle.book_kept.proofs.laws.sheets_tell_world.Goals as goal
-
-pub returns : goal.returns
-returns c = proven.sheets_tell_world

@@ -1,2 +1,0 @@
-pub mod Forwarding
-pub mod Reading

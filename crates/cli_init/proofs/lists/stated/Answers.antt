@@ -1,6 +1,0 @@
-use Rattle.std.proofs.Common.{map}
-use Rattle.cli_init.proofs.ListLemmas.{told_world}
-use Rattle.cli_init.proofs.lists.stated.Goals as goal
-
-pub returns-in-Ok : goal.returns-in-Ok
-returns-in-Ok c = told_world (map (λ t. t.now) c.args.texts.now) _ _ c.read_lists.ensures c.in-Ok.is

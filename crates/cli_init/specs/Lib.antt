@@ -1,4 +1,0 @@
-pub mod Faults
-pub mod Inited
-pub mod Lists
-pub mod Making

@@ -1,0 +1,5 @@
+mod CarriedLemmas
+mod CheckedLemmas
+mod ListLemmas
+mod MadeLemmas
+mod YearLemmas

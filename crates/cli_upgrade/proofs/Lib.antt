@@ -1,2 +1,0 @@
-mod ActionLemmas
-mod CarriedLemmas

@@ -1,0 +1,4 @@
+pub mod Calls
+pub mod Past
+pub mod Readiness
+pub mod Ways

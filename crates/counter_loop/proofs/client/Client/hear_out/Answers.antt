@@ -1,8 +1,0 @@
--- What was read is let go.
-use Rattle.std.proofs.Common.{refl}
-use Rattle.counter_loop.proofs.BoxLemmas.{heard_more}
-use Rattle.counter_loop.proofs.client.Client.hear_out.Goals as goal
-
-pub loop-preserved : goal.loop-preserved
-loop-preserved g c =
-    (heard_more g.T.TwoWay.ways c.args.self.now c.loop.self _ c.receive.result c.receive.new.buf c.loop.invariant.0 c.loop.invariant.1 refl refl refl refl c.receive.ensures.bytes, c.loop.invariant.1)

@@ -1,0 +1,4 @@
+pub mod Connection
+pub mod History
+pub mod Parts
+pub mod Serving

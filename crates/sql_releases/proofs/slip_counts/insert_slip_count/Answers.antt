@@ -1,4 +1,0 @@
-use Rattle.sql_releases.proofs.slip_counts.insert_slip_count.Goals as goal
-
-pub returns-clause-runs : goal.returns-clause-runs
-returns-clause-runs g c clean inside = rw (c.params-to_sql.ensures, c.params-to_sql-2.ensures) at (c.run.ensures.runs clean inside)
