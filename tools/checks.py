@@ -18,7 +18,7 @@ from collections.abc import Callable, Iterable, Sequence
 from concurrent.futures import ThreadPoolExecutor
 from typing import Any, NamedTuple
 
-from repository import PROGRAM, TOP, are_built
+from repository import OVER, PROGRAM, TOP, are_built
 
 # Of more checks than these only those are printed that failed, and after how many seconds how far it is.
 MOST_PRINTED, SECONDS_BETWEEN = 100, 60
@@ -31,7 +31,7 @@ class Wrong(Exception):
 
 
 class Late(Wrong):
-    """What has to come had not come in its time."""
+    """What has to come did not come in its time."""
 
 
 # What is raised by waiting alone.
@@ -68,10 +68,10 @@ def wait_until(found: Callable[[], Any], seconds: float, what: str, pause: float
 
 class Check(NamedTuple):
     """A check: what makes it, which may return a note to print; what it lacks on this machine, if anything; and what makes it at
-    a second try, if that is something else."""
+    a second try, if that is something else. One of a day (days.py) is made over the day."""
 
     name: str
-    make: Callable[[], str | None]
+    make: Callable[..., str | None]
     lacks: str = ""
     again: Callable[[], str | None] | None = None
 
@@ -136,10 +136,14 @@ class Report:
     def able(self, checks: Iterable[Check]) -> list[Check]:
         """Those of the checks that lack nothing; the others are skipped."""
         found = list(checks)
+        named: dict[str, list[str]] = {}
         for it in found:
             if it.lacks:
-                self.skipped += 1
-                print(f"skipped {it.name}: {it.lacks}", flush=True)
+                named.setdefault(it.lacks, []).append(it.name)
+        for lacks, names in named.items():
+            self.skipped += len(names)
+            lines = names if len(names) <= MOST_PRINTED else [f"{len(names)}, from {names[0]} to {names[-1]}"]
+            print("\n".join(f"skipped {it}: {lacks}" for it in lines), flush=True)
         return [it for it in found if not it.lacks]
 
     def make(self, checks: Iterable[Check], jobs: int = 1, go_by_clock: bool = False) -> None:
@@ -179,8 +183,13 @@ class Report:
         """Prints the last lines. The exit status."""
         if self.passed_again:
             print(f"{self.passed_again} passed at the second try")
-        print(f"{self.passed} passed, {self.failed} failed" + f", {self.skipped} skipped" * bool(self.skipped), flush=True)
+        print(counted(self.passed, self.failed, self.skipped), flush=True)
         return 1 if self.failed else 0
+
+
+def counted(passed: int, failed: int, skipped: int) -> str:
+    """The last line of a part, and of all."""
+    return f"{passed} passed, {failed} failed" + f", {skipped} skipped" * bool(skipped)
 
 
 def is_by_chance(late: int, count: int) -> bool:
@@ -197,18 +206,40 @@ def in_order(makes: list[Callable[[], str | None]], jobs: int) -> Iterable[tuple
         yield from pool.map(outcome, makes)
 
 
-def reader(description: str | None, *, program: str | None = PROGRAM, has_checks: bool = True) -> argparse.ArgumentParser:
+def reader(
+    description: str | None,
+    *,
+    program: str | None = PROGRAM,
+    has_checks: bool = True,
+    has_name: bool = False,
+    has_stores: bool = False,
+) -> argparse.ArgumentParser:
     """A reader of the arguments that parts have: which checks are made, if they can be chosen, and over which program, if not
-    over this one."""
+    over this one; once more which, after that, if a part has a name there; and whether stores are left out, if some go over those."""
     found = argparse.ArgumentParser(description=description, formatter_class=argparse.RawDescriptionHelpFormatter)
     if has_checks:
         found.add_argument("--list", action="store_true", help="print the names of the checks")
         found.add_argument("--only", metavar="TEXT", action="append", default=[], help="make those with this in their names")
+    if has_stores:
+        found.add_argument("--no-stores", action="store_true", help=f"skip what {os.path.relpath(OVER, TOP)} serves")
     if program:
         said = f"the program, if not {os.path.relpath(program, TOP)}"
         path = lambda text: os.path.abspath(text)
         found.add_argument("program", metavar="PROGRAM", nargs="?", default=program, type=path, help=said)
+    if has_name:
+        found.add_argument("name", metavar="NAME", nargs="?", help="the same as --only NAME")
     return found
+
+
+def only_of(given: argparse.Namespace) -> list[str]:
+    """Of which texts the name of a check has to hold one, if there are any."""
+    return [*given.only, given.name] if given.name else list(given.only)
+
+
+def lacks_stores(given: argparse.Namespace) -> str:
+    """What is said of the program that serves the sample in stores, if it is left out, or not there."""
+    name = os.path.relpath(OVER, TOP)
+    return f"{name} is left out" if given.no_stores else "" if os.path.isfile(OVER) else f"there is no {name}"
 
 
 def is_chosen(name: str, only: list[str]) -> bool:
@@ -246,4 +277,22 @@ def run_checks(
             return refuse("there is no such check")
         report = Report(len(checks))
         report.make(checks, jobs, go_by_clock)
+    return report.end()
+
+
+def run_named(given: argparse.Namespace, checks: Sequence[Check], make: Callable[[Report], None]) -> int:
+    """Has `make` make what has been asked for, which these checks name, over the program, unless all of them lack something. The
+    exit status."""
+    if given.list:
+        print("\n".join(it.name for it in checks))
+        return 0
+    if not checks:
+        return refuse("there is no such check")
+    report = Report(len(checks))
+    if all(it.lacks for it in checks):
+        report.able(checks)
+    elif not are_built(given.program):
+        return refuse("there is no program")
+    elif error := outcome(lambda: make(report))[1]:
+        report.add("what they begin with", reason(error))
     return report.end()

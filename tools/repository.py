@@ -25,7 +25,7 @@ def are_built(*programs: str) -> bool:
     return not missing
 
 
-def words_of_all():
+def dependencies():
     """The libraries that the line of each crate names, the kit's among them, by the crate's name."""
     uses = {}
     with open(os.path.join(TOP, "crates.txt"), encoding="utf-8") as file:
@@ -83,7 +83,7 @@ def source_of(crate):
     return program if os.path.isfile(program) else library
 
 
-def words_of_check(uses, crate, source, libraries, home):
+def check_arguments(uses, crate, source, libraries, home):
     """The arguments of the prover's check of a crate that begins with this file. FOLDER/crates/NAME of the libraries has each
     crate below it, built; those of the benches, which CI does not build, are read as they stand, and may use what is
     passed to the crate."""

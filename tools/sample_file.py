@@ -34,7 +34,7 @@ OPENED = b"".join(
 )
 
 
-def run_words(file: str, moment: int) -> list[str]:
+def run_arguments(file: str, moment: int) -> list[str]:
     """The arguments by which a bank in a file is served."""
     return ["run", file, "--badges", BADGES, "--moment", str(moment)]
 
@@ -58,7 +58,7 @@ def make_sample(program: str, file: str, sums: bool = True) -> None:
     end in sums, or not."""
     if ended(program, ["init", file, LISTS, *["--sums"] * sums]) != b"made\n":
         raise Wrong("init did not say that the bank was made")
-    if ended(program, run_words(file, 0), OPENED).count(b" 200 OK") != 8:
+    if ended(program, run_arguments(file, 0), OPENED).count(b" 200 OK") != 8:
         raise Wrong("the bank was not opened")
 
 

@@ -8,7 +8,7 @@ import struct
 import subprocess
 import termios
 from collections.abc import Callable
-from typing import Any, Self
+from typing import Any, NamedTuple, Self, TypeVar
 
 from checks import Wrong, wait_until
 from sample_file import BADGES
@@ -17,10 +17,23 @@ SECONDS = 240
 HOST = "127.0.0.1"
 # Ports that are tried, below those that the system gives to clients.
 PORTS = itertools.cycle(range(20_000, 30_000))
-# Processes whose numbers follow one another begin so many of them apart; of twenty no two begin within 300.
+# How far apart two processes begin whose numbers follow one another; of twenty no two begin within 300.
 PORTS_APART = 6_181
 # Another port is taken so often, where somebody takes one between its choice and its use.
 TRIES = 5
+Made = TypeVar("Made")
+
+
+class Begun(NamedTuple):
+    """A run that has begun at a port, and its first line."""
+
+    port: int
+    run: subprocess.Popen[bytes]
+    line: bytes
+
+    def has_line(self) -> bool:
+        """Whether it has a first line."""
+        return bool(self.line)
 
 
 def skip_ports():
@@ -50,8 +63,8 @@ def free_port() -> int:
     return next(port for port in PORTS if is_free(port))
 
 
-def serve_words(file: str, port: int, requests: int) -> list[str]:
-    """The arguments by which a bank in a file is served at a port, until so many messages are counted."""
+def serve_arguments(file: str, port: int, requests: int) -> list[str]:
+    """The arguments by which a bank in a file is served at a port, until `requests` messages are counted."""
     return ["serve", file, "--badges", BADGES, "--port", str(port), "--requests", str(requests)]
 
 
@@ -62,11 +75,15 @@ def connected(port: int) -> socket.socket:
     return client
 
 
+def bytes_at(client: socket.socket, question: int) -> int:
+    """How many bytes the system says that it holds of a connection: TIOCOUTQ of those sent, FIONREAD of those to be read."""
+    return struct.unpack("i", fcntl.ioctl(client, question, bytes(4)))[0]
+
+
 def wait_until_taken(client, pause=0.001):
     """Waits until the system has taken what was sent over to the other side's end, which may not read it yet; of a Unix socket,
     until the other side has read it."""
-    is_taken = lambda: not struct.unpack("i", fcntl.ioctl(client, termios.TIOCOUTQ, bytes(4)))[0]
-    wait_until(is_taken, SECONDS, "what was sent has come", pause)
+    wait_until(lambda: not bytes_at(client, termios.TIOCOUTQ), SECONDS, "what was sent has come", pause)
 
 
 def read_to_end(client):
@@ -87,33 +104,44 @@ def asked(port, given):
         return read_to_end(client)
 
 
-def listening(start: Callable[[int], subprocess.Popen[bytes]]) -> tuple[int, subprocess.Popen[bytes], bytes]:
-    """A port, a run that `start` has begun at it, and its first line; at another port where somebody has taken that one."""
+def at_free_port(make: Callable[[int], Made], has_it: Callable[[Made], bool]) -> Made:
+    """What is made at a free port; or at another one, if what was made does not have that and somebody else does."""
     for left in reversed(range(TRIES)):
         port = free_port()
-        run = start(port)
-        line = run.stdout.readline() if run.stdout else b""
-        if line or is_free(port) or not left:
-            return port, run, line
-        run.communicate()
+        made = make(port)
+        if has_it(made) or is_free(port) or not left:
+            return made
     raise Wrong(f"no port was free at {TRIES} tries")
 
 
+def listening(start: Callable[[int], subprocess.Popen[bytes]]) -> Begun:
+    """A port, a run that `start` has begun at it, and its first line."""
+
+    def begun(port: int) -> Begun:
+        run = start(port)
+        line = run.stdout.readline() if run.stdout else b""
+        if not line:
+            run.wait(SECONDS)
+        return Begun(port, run, line)
+
+    return at_free_port(begun, Begun.has_line)
+
+
 class Serving:
-    """A run that serves the bank in a file until so many messages are counted. It is killed where it is left early."""
+    """A run that serves the bank in a file until a number of messages are counted. It is killed where it is left early."""
 
     given = subprocess.DEVNULL
 
     def __init__(self, program: str, file: str, requests: int, **more: Any) -> None:
         def start(port: int) -> subprocess.Popen[bytes]:
-            words = [program, *self.words_at(file, port, requests)]
+            words = [program, *self.arguments_at(file, port, requests)]
             return subprocess.Popen(words, stdin=self.given, stdout=subprocess.PIPE, stderr=subprocess.PIPE, **more)
 
         self.port, self.run, self.line = listening(start)
 
-    def words_at(self, file: str, port: int, requests: int) -> list[str]:
+    def arguments_at(self, file: str, port: int, requests: int) -> list[str]:
         """The arguments of the run."""
-        return serve_words(file, port, requests)
+        return serve_arguments(file, port, requests)
 
     def __enter__(self) -> Self:
         if not self.is_told():
@@ -143,7 +171,7 @@ class Serving:
             raise Wrong(f"it ended with {found!r}")
 
 
-def counter_words(file: str, *more: str) -> list[str]:
+def counter_arguments(file: str, *more: str) -> list[str]:
     """The arguments by which many connections are served at once over a bank in a file, until standard input ends."""
     return ["counter", file, "--badges", BADGES, "--until-input-ends", *more]
 
@@ -157,8 +185,8 @@ class Counter(Serving):
     def __init__(self, program: str, file: str, requests: int = 0, **more: Any) -> None:
         super().__init__(program, file, requests, **more)
 
-    def words_at(self, file: str, port: int, requests: int) -> list[str]:
-        return counter_words(file, "--port", str(port))
+    def arguments_at(self, file: str, port: int, requests: int) -> list[str]:
+        return counter_arguments(file, "--port", str(port))
 
     def end_input(self):
         """Ends the input, and does not wait for what comes of that. (What waits for the end closes the input otherwise.)"""

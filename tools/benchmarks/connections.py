@@ -103,9 +103,9 @@ def rate(port, count, times):
 
 
 def main():
-    words = reader(__doc__, has_checks=False)
-    words.add_argument("--quick", action="store_true")
-    given = words.parse_args()
+    arguments = reader(__doc__, has_checks=False)
+    arguments.add_argument("--quick", action="store_true")
+    given = arguments.parse_args()
     program, part = given.program, 10 if given.quick else 1
     if not are_built(program):
         return 1

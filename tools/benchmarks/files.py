@@ -28,7 +28,7 @@ import time
 from checks import Wrong, reader
 from page_sums import empty_file, seal_file
 from repository import are_built
-from sample_file import LISTS, make_sample, message, run_words
+from sample_file import LISTS, make_sample, message, run_arguments
 from served import Served
 
 PAGES = ["1024", "1024s", "4096"]
@@ -81,8 +81,8 @@ def make_lists(folder, accounts):
     for name in os.listdir(LISTS):
         with open(os.path.join(LISTS, name), encoding="utf-8") as file:
             write_list(folder, name, file.read().replace("5,account,101,150", "5,account,1,999999").splitlines())
-    write_list(folder, "branches.csv", ["branch,balance,cash", f"1,{accounts},0"])
-    write_list(folder, "tellers.csv", ["teller,branch,balance", f"11,1,{accounts}"])
+    write_list(folder, "branches.csv", ["branch,balance,cash", f"1,{accounts},100000"])
+    write_list(folder, "tellers.csv", ["teller,branch,balance", f"11,1,{accounts}", "12,1,0"])
     rows = (f"{account},1,1,0" for account in range(1, accounts + 1))
     write_list(folder, "accounts.csv", ["account,home,balance,floor", *rows])
 
@@ -168,7 +168,7 @@ def is_slow(forwarded, checked):
 def times_of(program, file, path, body):
     """The microseconds of a report of ten lines over a file, by the clock and of the processor."""
     takes = []
-    with Served([program, *run_words(file, 700)]) as served:
+    with Served([program, *run_arguments(file, 700)]) as served:
         session = int(re.search(rb"\d+", served.ask(message("tess", "/session")))[0])
         question = message("tess", path, body, session)
         for _ in range(TAKES):
@@ -217,7 +217,7 @@ def years_begun(program, pages, opened):
     """Closes the day of banks of many entries, makes the next year's bank of each, and answers whether that took too long."""
     checked, begun = Times(f"{pages.name}: check of a closed day", "entries"), Times(f"{pages.name}: forward", "entries")
     for count, file in opened.items():
-        measured([program, *run_words(file, 700)], closing_of(count))
+        measured([program, *run_arguments(file, 700)], closing_of(count))
         checked.take(count, [program, "check", file])
         begun.take(count, [program, "forward", file, f"{file}-next", *["--sums"] * pages.sums])
     return begun.grows_fast() or is_slow(begun, checked)
@@ -236,7 +236,7 @@ def taken(program, pages, room):
     judged, started = Times(f"{pages.name}: check", "entries"), Times(f"{pages.name}: run to its first reply", "entries")
     for count, file in opened.items():
         judged.take(count, [program, "check", file])
-        started.take(count, [program, *run_words(file, 700)], BALANCE)
+        started.take(count, [program, *run_arguments(file, 700)], BALANCE)
     fast = [it.grows_fast() for it in (made, checked, judged, started)]
     fast.append(grow_among(program, "accounts", banks, "/do/accounts", accounts_among))
     fast.append(grow_among(program, "entries", opened, "/do/statement", entries_among))
@@ -245,10 +245,10 @@ def taken(program, pages, room):
 
 
 def main():
-    words = reader(__doc__, has_checks=False)
-    words.add_argument("--pages", nargs="+", default=PAGES)
-    words.add_argument("--years", action="store_true")
-    given = words.parse_args()
+    arguments = reader(__doc__, has_checks=False)
+    arguments.add_argument("--pages", nargs="+", default=PAGES)
+    arguments.add_argument("--years", action="store_true")
+    given = arguments.parse_args()
     if not are_built(given.program):
         return 1
     fast = []

@@ -4,10 +4,11 @@
     tools/benchmarks/instructions --compare BEFORE AFTER
 
 PROGRAM is crates/bank_cli/out/bank_cli if it is left out. Counted are messages to `run` over the sample bank in a file: a post,
-one with a new slip, one whose slip was taken with it before, one that the books deny, a transfer, and a balance; `check` of 10,000
-entries; and the head of a balance, of 1,000 bytes, that `counter` is sent in one piece and in 1,000. Of each the run that makes
-ready for it, and in a message's case some messages before, are taken off. The program always has a cache in front of its tables;
-tools/benchmarks/posts has stores without one.
+one with a new slip, one whose slip was taken with it before, one that the books deny, a transfer, and a balance; a post over a
+bank of 98,000 accounts, and by C SQLite the statements of such a post (peer_sqlite.c, over the same bank without sums, if it can be
+compiled); `check` of 10,000 entries; and the head of a balance, of 1,000 bytes, that `counter` is sent in one piece and in 1,000. Of
+each the run that makes ready for it, and in a message's case some messages before, are taken off. The program always has a cache in
+front of its tables; tools/benchmarks/posts has stores without one.
 
 The table is printed, and written to FILE; its first line names the commit, which is that of the repository if NAME is left out,
 and what counted: the processor through perf, or valgrind where that shows no count. With neither nothing is counted, and the exit
@@ -21,18 +22,22 @@ import os
 import subprocess
 import sys
 import tempfile
-from collections.abc import Iterator
+from collections.abc import Callable, Iterator
 from typing import NamedTuple
 
 from benchmarks.counting import Count, Counter, counter
+from benchmarks.files import make_lists
+from benchmarks.peers import lacks_sqlite, peer_of_files
 from benchmarks.pieces import counted_serving, filled_message
 from checks import Wrong, reader
 from replies import statuses_in
 from repository import TOP, are_built
-from sample_file import copy_bank, ended, make_sample, message, run_words
+from sample_file import OPENED, copy_bank, ended, make_sample, message, run_arguments
 
 # How many messages come before those that are counted, and how many are counted.
 BEFORE, COUNTED = 10, 200
+# How many accounts the large bank has.
+ACCOUNTS = 98_000
 # How many entries a file has whose `check` is taken off, and how many more one has that is counted.
 FEW_ENTRIES, MORE_ENTRIES = 100, 10_000
 HEAD, BODY = 1_000, 15
@@ -142,6 +147,16 @@ MESSAGES = {
 }
 
 
+def make_large(program: str, folder: str, sums: bool) -> str:
+    """Makes a bank of 98,000 accounts of one branch in a folder, opened as the sample is, and returns the path of its file."""
+    lists, file = os.path.join(folder, "lists"), os.path.join(folder, "bank")
+    make_lists(lists, ACCOUNTS)
+    ended(program, ["init", file, lists, *["--sums"] * sums])
+    if (found := {*statuses_in(ended(program, run_arguments(file, 0), OPENED))}) != {200}:
+        raise Wrong(f"the large bank was not opened: {found}")
+    return file
+
+
 class Bench:
     """The program, what counts, and a folder with the sample bank."""
 
@@ -151,33 +166,56 @@ class Bench:
         make_sample(program, self.sample)
 
     def counted(self, words: list[str], given: bytes = b"") -> tuple[int, bytes]:
-        """The instructions of a run, which has to end well, and what it wrote to standard output."""
+        """The instructions of a command, which has to end well, and what it wrote to standard output."""
         count = Count(self.by, self.folder)
-        ran = subprocess.run([*count.words, self.program, *words], input=given, capture_output=True, check=False)
+        ran = subprocess.run([*count.words, *words], input=given, capture_output=True, check=False)
         if ran.returncode:
-            raise Wrong(f"{words[0]} ended with status {ran.returncode}, {ran.stderr[-200:]!r}")
+            raise Wrong(f"{words[:2]} ended with status {ran.returncode}, {ran.stderr[-200:]!r}")
         return count.read(), ran.stdout
 
-    def of_messages(self, messages: list[bytes], status: int) -> int:
-        """The instructions of `run` over a copy of the sample that is sent these messages; each gets this status."""
-        copy_bank(self.sample, self.file)
-        count, output = self.counted(run_words(self.file, MOMENT), b"".join(messages))
+    def of_messages(self, bank: str, messages: list[bytes], status: int) -> int:
+        """The instructions of `run` over a copy of a bank that is sent these messages; each gets this status."""
+        copy_bank(bank, self.file)
+        count, output = self.counted([self.program, *run_arguments(self.file, MOMENT)], b"".join(messages))
         if (found := statuses_in(output)) != [status] * len(messages):
             raise Wrong(f"{len(messages)} messages got {len(found)} replies, of {set(found)}; due is {status}")
         return count
 
+    def of_one(self, bank: str, make: Callable[[int], bytes], status: int) -> int:
+        """The instructions of one message of a kind over a copy of a bank, on the average of some."""
+        messages = [make(place) for place in range(BEFORE + COUNTED)]
+        few, all_of_them = (self.of_messages(bank, it, status) for it in (messages[:BEFORE], messages))
+        return (all_of_them - few) // COUNTED
+
+    def of_statements(self, peer: str, bank: str) -> int:
+        """The instructions of the statements of one post by C SQLite over a copy of a bank, on the average of some."""
+        counts = []
+        for posts in (BEFORE, BEFORE + COUNTED):
+            copy_bank(bank, self.file)
+            counts.append(self.counted([peer, self.file, str(posts)])[0])
+        return (counts[1] - counts[0]) // COUNTED
+
+    def of_large(self) -> Iterator[tuple[str, int]]:
+        """What is counted over the large bank."""
+        with tempfile.TemporaryDirectory(dir=self.folder) as room:
+            yield "a post, 98,000 accounts", self.of_one(make_large(self.program, room, True), POST, 200)
+        if why := lacks_sqlite():
+            print(f"skipped: C SQLite: {why}", file=sys.stderr, flush=True)
+            return
+        with tempfile.TemporaryDirectory(dir=self.folder) as room:
+            yield "its statements by C SQLite", self.of_statements(peer_of_files(room), make_large(self.program, room, False))
+
     def of_check(self, entries: int) -> int:
         """The instructions of `check` of the sample with n posts."""
         copy_bank(self.sample, self.file)
-        ended(self.program, run_words(self.file, MOMENT), post() * entries)
-        return self.counted(["check", self.file])[0]
+        ended(self.program, run_arguments(self.file, MOMENT), post() * entries)
+        return self.counted([self.program, "check", self.file])[0]
 
     def rows(self) -> Iterator[tuple[str, int]]:
         """Each count by what it is of."""
         for name, (make, status) in MESSAGES.items():
-            messages = [make(place) for place in range(BEFORE + COUNTED)]
-            few, all_of_them = (self.of_messages(it, status) for it in (messages[:BEFORE], messages))
-            yield name, (all_of_them - few) // COUNTED
+            yield name, self.of_one(self.sample, make, status)
+        yield from self.of_large()
         yield "check of 10,000 entries", self.of_check(FEW_ENTRIES + MORE_ENTRIES) - self.of_check(FEW_ENTRIES)
         copy_bank(self.sample, self.file)
         idle = counted_serving(self.by, self.program, self.file, [])

@@ -26,7 +26,7 @@ from typing import Self
 from benchmarks.connections import rate
 from checks import Wrong, lacking, reader
 from repository import TOP, are_built
-from sample_file import copy_bank, ended, make_sample, message, run_words
+from sample_file import copy_bank, ended, make_sample, message, run_arguments
 from serving import Counter, free_port
 
 POST = message("tess", "/do/post", {"account": 101, "branch": 1, "delta": 1, "teller": 11})
@@ -70,7 +70,7 @@ class Files:
         """How long a run takes that is sent n posts."""
         copy_bank(self.sample, self.file)
         start = time.monotonic()
-        ended(self.program, run_words(self.file, 0), POST * posts)
+        ended(self.program, run_arguments(self.file, 0), POST * posts)
         return time.monotonic() - start
 
     def ours(self) -> float:
@@ -186,12 +186,12 @@ def measure(given: argparse.Namespace, folder: str) -> None:
 
 
 def main() -> int:
-    words = reader(__doc__, has_checks=False)
-    words.add_argument("--rounds", type=int, default=ROUNDS)
-    words.add_argument("--posts", type=int, default=POSTS)
-    words.add_argument("--clients", type=int, nargs="+", default=CLIENTS)
-    words.add_argument("--only", choices=("file", "connections"))
-    given = words.parse_args()
+    arguments = reader(__doc__, has_checks=False)
+    arguments.add_argument("--rounds", type=int, default=ROUNDS)
+    arguments.add_argument("--posts", type=int, default=POSTS)
+    arguments.add_argument("--clients", type=int, nargs="+", default=CLIENTS)
+    arguments.add_argument("--only", choices=("file", "connections"))
+    given = arguments.parse_args()
     if not are_built(given.program):
         return 1
     with tempfile.TemporaryDirectory(prefix="bank-peers-") as folder:

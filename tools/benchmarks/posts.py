@@ -261,9 +261,9 @@ def print_statements(program):
 
 
 def main():
-    words = reader(__doc__, program=PROGRAM, has_checks=False)
-    words.add_argument("--quick", action="store_true")
-    given = words.parse_args()
+    arguments = reader(__doc__, program=PROGRAM, has_checks=False)
+    arguments.add_argument("--quick", action="store_true")
+    given = arguments.parse_args()
     program, quick = given.program, given.quick
     build = [os.path.join(TOP, "tools", "build"), "bench_posts"]
     if program == PROGRAM and subprocess.run(build, check=False).returncode:

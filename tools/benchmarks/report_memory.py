@@ -21,7 +21,7 @@ import tempfile
 
 from checks import Check, Wrong, reader, run_checks
 from faults.refusals import Program
-from sample_file import ended, make_sample, message, run_words
+from sample_file import ended, make_sample, message, run_arguments
 from served import Served
 
 SAMPLE_WORDS = ["sample", "--moment", "700"]
@@ -140,7 +140,7 @@ def look_at_sample(program, room):
 def look_at_file(program, room):
     file = os.path.join(room, "bank")
     make_sample(program, file)
-    look_at_statements(program, room, run_words(file, 700), "a file")
+    look_at_statements(program, room, run_arguments(file, 700), "a file")
 
 
 def main():

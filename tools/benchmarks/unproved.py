@@ -17,7 +17,7 @@ import tempfile
 import repository
 from checks import reader
 from first_look.compiling import COMPILER, NO_PROVER, SECONDS, toolchain_that_keeps
-from repository import BANK_PROGRAM, TOP, below, copy_crates, words_of_all
+from repository import BANK_PROGRAM, TOP, below, copy_crates, dependencies
 
 # The linker takes the module that the compiler has kept, and none of what finds bad access. Left out of the module are the filling
 # of locals, the checks, and the traps that a proof rules out.
@@ -61,7 +61,7 @@ def build(tree: str, room: str, program: str) -> int:
     """Builds the program of these files, and returns the exit status of what does."""
     repository.TOP = tree
     copy = os.path.join(room, "copy")
-    copy_crates(copy, below(words_of_all(), [BANK_PROGRAM]))
+    copy_crates(copy, below(dependencies(), [BANK_PROGRAM]))
     rt = toolchain_that_keeps(os.path.join(room, "kit"), program, REPLACED)
     words = [rt, "try", "--seconds", str(SECONDS), "--", "--help"]
     return subprocess.run(words, cwd=os.path.join(copy, "crates", BANK_PROGRAM), stdin=subprocess.DEVNULL, check=False).returncode

@@ -117,9 +117,9 @@ def plain_table(cases):
 
 
 def main():
-    words = reader(__doc__, program=None, has_checks=False)
-    words.add_argument("--check", action="store_true", help="print only what is wrong, and how many cases there are")
-    given = words.parse_args()
+    arguments = reader(__doc__, program=None, has_checks=False)
+    arguments.add_argument("--check", action="store_true", help="print only what is wrong, and how many cases there are")
+    given = arguments.parse_args()
     said, count = [], 0
     try:
         suite, known = Suite(), tests()

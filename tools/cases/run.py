@@ -1,6 +1,6 @@
 """Runs the built programs over the acceptance suite and compares what they write byte for byte.
 
-    tools/cases/run [PROGRAM [CASE ..]]
+    tools/cases/run [--no-stores] [PROGRAM [CASE ..]]
     tools/cases/run --input CASE
 
 With names of cases, or of their files, only those are run. `--input` writes the bytes that a case sends. tools/cases/suite.py
@@ -27,10 +27,10 @@ import tempfile
 from functools import partial
 
 from cases.suite import BadRow, Suite
-from checks import Check, reader, refuse, require_nothing, run_checks
+from checks import Check, lacks_stores, reader, refuse, require_nothing, run_checks
 from replies import parsed, size_of
 from repository import OVER, TOP
-from sample_file import SampleBanks, copy_bank, run_words
+from sample_file import SampleBanks, copy_bank, run_arguments
 
 STORES = ["list", "cached", "sql"]
 USERS = {b"olga", b"carl", b"cora", b"tess", b"tom", b"sue"}
@@ -253,7 +253,7 @@ class RunOverFile:
         with tempfile.TemporaryDirectory(prefix="bank-row-") as room:
             file = os.path.join(room, "bank")
             copy_bank(self.banks.made(), file)
-            ran = run_program(self.program, run_words(file, self.moment), self.step.given, room)
+            ran = run_program(self.program, run_arguments(file, self.moment), self.step.given, room)
         return differences(self.step, ran, ran.stdout)
 
 
@@ -269,11 +269,12 @@ def runs_of(suite, name, program, banks):
     return runs
 
 
-def checks_of_case(suite, name, program, banks):
-    """All runs of a case, as checks; or that it can't be run, as one that fails."""
+def checks_of_case(suite, name, program, banks, lacks):
+    """All runs of a case, as checks, of which those over stores may lack something; or that it can't be run, as one that fails."""
     try:
         for run in runs_of(suite, name, program, banks):
-            yield Check(f"{name} ({suite.rows[name].place}), {run.name()}", lambda run=run: require_nothing(run.faults()))
+            make, of_run = lambda run=run: require_nothing(run.faults()), lacks if isinstance(run, RunOver) else ""
+            yield Check(f"{name} ({suite.rows[name].place}), {run.name()}", make, of_run)
     except BadRow as why:
         yield Check(name, partial(require_nothing, [str(why)]))
 
@@ -295,10 +296,10 @@ def write_input(suite, name):
 
 
 def main():
-    words = reader(__doc__)
-    words.add_argument("names", metavar="CASE", nargs="*", help="run these cases alone, or those of these files")
-    words.add_argument("--input", metavar="CASE", help="write the bytes that a case sends")
-    given = words.parse_args()
+    arguments = reader(__doc__, has_stores=True)
+    arguments.add_argument("names", metavar="CASE", nargs="*", help="run these cases alone, or those of these files")
+    arguments.add_argument("--input", metavar="CASE", help="write the bytes that a case sends")
+    given = arguments.parse_args()
     try:
         suite = Suite()
     except (BadRow, ValueError) as why:
@@ -309,6 +310,6 @@ def main():
 
     def checks_of(room):
         banks = SampleBanks(given.program, room)
-        return [it for name in names for it in checks_of_case(suite, name, given.program, banks)]
+        return [it for name in names for it in checks_of_case(suite, name, given.program, banks, lacks_stores(given))]
 
-    return run_checks(given, checks_of, jobs=os.cpu_count(), programs=[given.program, OVER])
+    return run_checks(given, checks_of, jobs=os.cpu_count())

@@ -10,13 +10,14 @@ done in its folder before. It begins with `row NAME`, and has lines of these kin
                                              begin with `|` may be its body
     > Host: bank, < HTTP/1.1 200 OK          a line that is sent or must be written, with CR LF
     | made, ! stream: cut                    a line that must be written to standard output or to standard error, with LF
+    as NAME                                  the requests and replies of `talk NAME`, a block of them alone
     run sample --moment 700                  the arguments; before the first case of a file, those of its cases that have none.
                                              `""` is an empty one
     status 3, output any                     the exit status where it is not 0; that output is not compared
     shows limit, rules .., test .., none ..  for `coverage`: which rule the case shows; in a file's head which rules there are,
                                              and what no case shows
 
-A file holds printable ASCII alone. A line that begins with `#` is a comment. In texts `\n`, `\r`, `\t`, `\s` for a space, `\\`
+A file NAME.rows.gz is such a text that gzip has compressed. A file holds printable ASCII alone. A line that begins with `#` is a comment. In texts `\n`, `\r`, `\t`, `\s` for a space, `\\`
 and `\xff` are single bytes, `\{973*\s}` is 973 spaces, and a `\` at the end of a line takes its line end away. `\{length}` is the
 number of bytes after the next empty line, up to the end of these `>` lines. All that a run is sent comes at once: the replies
 stand between the requests for the reader alone.
@@ -34,6 +35,7 @@ A case may have several runs in one folder, each after a `run` of its own, and f
     rights bank.db 644                       after a run, which a mask of 0 takes no rights from: those of the file
 """
 import glob
+import gzip
 import os
 import re
 import shutil
@@ -43,6 +45,8 @@ from cases import long_cases
 from repository import TOP
 
 ROWS = os.path.join(TOP, "rows")
+# Long files that were drawn at random, and that nobody reads, are compressed.
+ENDS = (".rows", ".rows.gz")
 # The opening lists of the sample bank, and among them its badges.
 SAMPLE = os.path.join(TOP, "sample")
 BADGES = "badges.csv"
@@ -242,6 +246,7 @@ class Step:
         self.given = b""
         self.output = b""
         self.errors = b""
+        self.as_of = None
         self.status = 0
         self.compares_output = True
         self.unchanged = []
@@ -250,7 +255,8 @@ class Step:
 
 
 class Row:
-    """A case: its steps, and the case in whose folder it begins. Files that cases begin with have changes and no step."""
+    """A case: its steps, and the case in whose folder it begins. Files that cases begin with have changes and no step, and a talk has
+    one step that is not run."""
 
     def __init__(self, name, place, runs):
         self.name = name
@@ -373,6 +379,9 @@ class RowReader:
     def take_run(self, text):
         self.begin(words_of(text))
 
+    def take_as(self, text):
+        self.step().as_of = text
+
     def take_status(self, text):
         self.step().status = int(text)
 
@@ -423,6 +432,7 @@ class RowReader:
 # What a line of a case may begin with, beside bytes, a request and a reply.
 KEYS = {
     "run": RowReader.take_run,
+    "as": RowReader.take_as,
     "status": RowReader.take_status,
     "output": RowReader.take_output,
     "unchanged": RowReader.take_unchanged,
@@ -456,7 +466,7 @@ class Subject:
         self.rows = []
         self.words = None
         lines = list(enumerate(text.split("\n"), 1))
-        firsts = [at for at, (_, line) in enumerate(lines) if line.startswith(("row ", "files "))]
+        firsts = [at for at, (_, line) in enumerate(lines) if line.startswith(("row ", "files ", "talk "))]
         try:
             self.read_head(grouped(lines[: firsts[0] if firsts else len(lines)]))
             for first, end in zip(firsts, [*firsts[1:], len(lines)]):
@@ -484,20 +494,21 @@ class Subject:
         if not re.fullmatch(r"\w+", name):
             raise BadRow(f"line {number}: a name has letters, digits and underscores: {name}")
         row = Row(name, f"{self.place}:{number}", word == "row")
+        row.steps += [Step([], [])] * (word == "talk")
         self.rows.append(RowReader(row, groups, self.words).read())
 
 
 def subject_of(path):
-    """The cases of a file."""
-    with open(path, encoding="ascii", newline="") as file:
-        return Subject(os.path.basename(path)[: -len(".rows")], os.path.relpath(path, TOP), file.read())
+    """The cases of a file, as text or compressed."""
+    with (gzip.open if path.endswith(".gz") else open)(path, "rt", encoding="ascii", newline="") as file:
+        return Subject(os.path.basename(path).partition(".rows")[0], os.path.relpath(path, TOP), file.read())
 
 
 class Suite:
     """All cases, by their names, in the order of their files; after those of the suite's own folder the ones made by a rule."""
 
     def __init__(self, folder=ROWS):
-        self.subjects = [subject_of(it) for it in sorted(glob.glob(os.path.join(folder, "*.rows")))]
+        self.subjects = [subject_of(it) for it in sorted(it for end in ENDS for it in glob.glob(os.path.join(folder, f"*{end}")))]
         if folder == ROWS:
             self.subjects += [Subject(name, "tools/cases/long_cases.py", text) for name, text in long_cases.SUBJECTS.items()]
         self.rows = {}
@@ -507,6 +518,15 @@ class Suite:
             self.rows[row.name] = row
         for row in self.rows.values():
             self.way_to(row)
+            for step in (it for it in row.steps if it.as_of):
+                self.add_as(row, step)
+
+    def add_as(self, row, step):
+        """Adds to a run of a case the requests and replies that a block has."""
+        other = self.row(step.as_of)
+        if other.runs or not other.steps:
+            raise BadRow(f"{row.place}: {step.as_of} is no talk")
+        step.given, step.output = step.given + other.only().given, step.output + other.only().output
 
     def way_to(self, row):
         """The cases whose steps come before those of a case, in their order."""

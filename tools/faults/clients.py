@@ -21,9 +21,9 @@ import time
 
 from checks import Check, Late, Wrong, lacking, reader, require, require_time, run_checks
 from replies import body_of, next_reply
-from sample_file import SampleBanks, ended, message, require_sound, run_to_end, run_words
+from sample_file import SampleBanks, ended, message, require_sound, run_to_end, run_arguments
 from served import most_held
-from serving import HOST, Counter, Serving, asked, connected, read_to_end, serve_words
+from serving import HOST, Counter, Serving, asked, connected, read_to_end, serve_arguments
 
 SECONDS = 240
 FIELDS = {"Bank-Badge": "tess", "Bank-Session": "1"}
@@ -230,7 +230,7 @@ def port_of_another_is_reported(program, file, serve=Serving):
     with socket.socket() as other:
         other.bind((HOST, 0))
         other.listen()
-        words = serve_words(file, other.getsockname()[1], 1)
+        words = serve_arguments(file, other.getsockname()[1], 1)
         require(run_to_end([program, *words]), (3, b"", b"stream: broken\n"), "a port of another")
     require_sound(program, file)
 
@@ -256,7 +256,7 @@ def bank_goes_on(program, file, serve=Serving):
             require(body_of(asked(serving.port, post)), due, "post")
             serving.require_done()
         require_sound(program, file)
-    require(body_of(ended(program, run_words(file, 0), BALANCE)), b'{"balance":55000}', "the balance after them")
+    require(body_of(ended(program, run_arguments(file, 0), BALANCE)), b'{"balance":55000}', "the balance after them")
 
 
 def triples_begin_and_end(program, file, serve=Serving):
@@ -339,20 +339,7 @@ NEEDED = {"curl_is_answered": ["curl"], "wget_is_answered": ["wget"]}
 # What serves, beside the trials that are made of it.
 SERVED = {
     Serving: TRIALS,
-    Counter: [
-        curl_is_answered,
-        wget_is_answered,
-        python_is_answered,
-        pieces_are_answered,
-        reply_comes_before_the_next_message,
-        cut_connection_ends_alone,
-        reset_connection_ends_alone,
-        long_line_ends_alone,
-        other_address_is_refused,
-        bank_goes_on,
-        triples_begin_and_end,
-        open_file_is_locked,
-    ],
+    Counter: [it for it in TRIALS if it not in (silent_connection_is_let_go, messages_are_counted, port_of_another_is_reported)],
 }
 LONG_SERVED = {Serving: LONG, Counter: [memory_does_not_grow]}
 
@@ -368,9 +355,9 @@ def trials_of(is_long):
 
 
 def main():
-    words = reader(__doc__)
-    words.add_argument("--long", action="store_true")
-    given = words.parse_args()
+    arguments = reader(__doc__)
+    arguments.add_argument("--long", action="store_true")
+    given = arguments.parse_args()
 
     def checks_of(room):
         banks = SampleBanks(given.program, room)

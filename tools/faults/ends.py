@@ -18,7 +18,7 @@ import tempfile
 import time
 
 from cases.suite import Suite
-from checks import Check, Late, Wrong, reader, require, run_checks
+from checks import Check, Late, Wrong, lacks_stores, reader, require, run_checks
 from repository import OVER
 
 SECONDS = 240
@@ -274,12 +274,13 @@ def each_reply_goes_out_in_one_write(program, watch):
 
 
 def main():
-    given, watch = reader(__doc__).parse_args(), strace()
+    given, watch = reader(__doc__, has_stores=True).parse_args(), strace()
 
     def checks_of(_):
-        yield from (Check(it.name, lambda it=it: make_end(given.program, it)) for it in ENDS)
+        lacks = {None: "", OVER: lacks_stores(given)}
+        yield from (Check(it.name, lambda it=it: make_end(given.program, it), lacks[it.program]) for it in ENDS)
         yield Check("replies_come_while_the_input_is_open", lambda: replies_come_while_the_input_is_open(given.program))
         make = lambda: each_reply_goes_out_in_one_write(given.program, watch)
         yield Check("each_reply_goes_out_in_one_write", make, "" if watch else NO_STRACE)
 
-    return run_checks(given, checks_of, programs=[given.program, OVER], go_by_clock=True)
+    return run_checks(given, checks_of, go_by_clock=True)

@@ -26,7 +26,7 @@ from faults.file_kinds import ABOVE, CLOSING, OFF, RELEASE, SLIPPED, TOM, TRANSF
 from faults.works import PAGE
 from model.bank import MOMENT, Bank
 from page_sums import RESERVED_AT, SUM, pages_in, require_pages
-from sample_file import ended, make_sample, require_sound, run_to_end, run_words
+from sample_file import ended, make_sample, require_sound, run_to_end, run_arguments
 
 SHARE = 499
 HOLD = "books hold"
@@ -49,7 +49,7 @@ class Damaged:
         make_sample(program, self.file, sums)
         self.before = pages_in(Path(self.file).read_bytes())
         _, given, replies = answered(Bank(), DAY)
-        said = ended(program, run_words(self.file, MOMENT), given)
+        said = ended(program, run_arguments(self.file, MOMENT), given)
         if said != b"".join(replies):
             raise Wrong(f"the day was answered {said!r}; due was {b''.join(replies)!r}")
         require_sound(program, self.file)
@@ -137,9 +137,9 @@ def pages(bank, pool):
 
 
 def main():
-    words = reader(__doc__)
-    words.add_argument("--share", metavar="N", type=int, default=SHARE)
-    given = words.parse_args()
+    arguments = reader(__doc__)
+    arguments.add_argument("--share", metavar="N", type=int, default=SHARE)
+    given = arguments.parse_args()
 
     def checks_of(room):
         for name, sums in (("with sums", True), ("without sums", False)):

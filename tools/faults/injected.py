@@ -16,7 +16,7 @@ from faults.refusals import MOST_CALLS
 from faults.works import AFTER, BROKEN, REFUSED
 from sample_file import SECONDS
 
-# Of a run's calls for memory the last so many are each refused.
+# How many of a run's last calls for memory are refused, each in a run of its own.
 LAST = 100
 KILLED = (-9, b"", b"")
 # So often an upgrade is killed, at a moment that is drawn.
@@ -31,7 +31,7 @@ class Fault:
     replies = (REFUSED[1], REFUSED[1])
     # whether a request may be carried out that is answered 503, and whether nothing is carried out after it
     may_be_done = stops = False
-    # whether a file that is not changed has the bytes that it had
+    # whether a file that is not changed keeps its bytes
     leaves_bytes = False
 
     def __init__(self, name):

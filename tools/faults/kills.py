@@ -11,8 +11,8 @@ Posts, one at a time: two and a half times N, a fresh copy gets up to 100 posts 
 hold`, twice, and the posts are there that were answered, and one more at most. The next one is answered with the next number.
 
 A stream whose requests bear slips, some at a time: N times it is killed and started anew; then the client sends on from the first
-that was not answered, with the slips that they had. Each reply has to be the one that is due, also to a request that had been
-carried out before its reply was lost. In the end `check` has to print `books hold`, and the file has to hold the rows that one
+that was not answered, each request with its slip. Each reply has to be the one that is due, also to a request that was carried
+out before its reply was lost. In the end `check` has to print `books hold`, and the file has to hold the rows that one
 run without a kill leaves: of `serve` and `counter` all but the moments of entries and of lines, as the clock gives these. Each
 slip is there once, with its reply.
 
@@ -33,7 +33,7 @@ from model.answers import answer, first_rule, is_stated
 from model.bank import BADGES, Bank
 from model.requests import DRAWN, Request, slips_of
 from replies import body_of
-from sample_file import SampleBanks, ended, require_sound, run_words
+from sample_file import SampleBanks, ended, require_sound, run_arguments
 from serving import Counter, Serving, connected, read_to_end
 
 TIMES = 20
@@ -70,7 +70,7 @@ class ByRun:
 
     def __init__(self, program, file):
         pipes = {"stdin": subprocess.PIPE, "stdout": subprocess.PIPE, "stderr": subprocess.DEVNULL}
-        self.run = subprocess.Popen([program, *run_words(file, 700)], bufsize=0, **pipes)
+        self.run = subprocess.Popen([program, *run_arguments(file, 700)], bufsize=0, **pipes)
 
     def send(self, given):
         """Sends bytes."""
@@ -226,7 +226,7 @@ def count_done(file, sent, answered):
 
 
 def send_with_kills(by, program, file, sent, times, rng):
-    """Sends a stream to a bank, killed n times, and returns how many requests were sent again that had been done."""
+    """Sends a stream to a bank, killed n times, and returns how many requests were sent again though they were done."""
     at = again = 0
     for _ in range(times):
         at += send_until_killed(by(program, file), sent[at:], rng.randint(0, MOST_ANSWERED), MOST_AT_A_TIME, LONGEST, rng)
@@ -261,7 +261,7 @@ class Kills:
         there = len(Tables(file).rows["entries"])
         if there not in (answered, answered + 1):
             raise Wrong(f"{answered} posts were answered, and {there} are there")
-        require(ended(self.program, run_words(file, 700), self.posts[there].message), self.posts[there].reply, "the next post")
+        require(ended(self.program, run_arguments(file, 700), self.posts[there].message), self.posts[there].reply, "the next post")
         self.unanswered[by] += there > answered
 
     def kill_stream(self, by):
@@ -269,7 +269,7 @@ class Kills:
         rng = self.rng(by.name)
         sent = stream_of(any_request, rng, (self.times + 1) * REQUESTS_OF_KILL)
         whole, file = self.banks.copy(), self.banks.copy()
-        if ended(self.program, run_words(whole, 700), bytes_of(sent)) != replies_to(sent):
+        if ended(self.program, run_arguments(whole, 700), bytes_of(sent)) != replies_to(sent):
             raise Wrong("without a kill it answers otherwise than the model")
         again = send_with_kills(by, self.program, file, sent, self.times, rng)
         require_sound(self.program, file)
@@ -288,8 +288,8 @@ class Kills:
 
 
 def main():
-    words = reader(__doc__)
-    words.add_argument("--times", metavar="N", type=int, default=TIMES)
-    words.add_argument("--seed", type=int, default=1)
-    given = words.parse_args()
+    arguments = reader(__doc__)
+    arguments.add_argument("--times", metavar="N", type=int, default=TIMES)
+    arguments.add_argument("--seed", type=int, default=1)
+    given = arguments.parse_args()
     return run_checks(given, lambda room: Kills(given, room).checks())

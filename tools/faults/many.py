@@ -20,14 +20,15 @@ import signal
 import socket
 import stat
 import subprocess
+import termios
 import threading
 import time
 
 from checks import Check, Late, Wrong, reader, require, require_time, run_checks
 from preload import preloaded
-from replies import body_of, next_reply, parsed
-from sample_file import BADGES, SampleBanks, ended, message, require_sound, run_to_end, run_words
-from serving import HOST, Counter, asked, connected, counter_words, listening, read_to_end, wait_until_taken
+from replies import body_of, next_reply, parsed, replies_in
+from sample_file import BADGES, ENDINGS, LISTS, SampleBanks, ended, message, require_sound, run_to_end, run_arguments
+from serving import HOST, Counter, asked, bytes_at, connected, counter_arguments, listening, read_to_end, wait_until_taken
 from simulation.machine import Machine
 
 SECONDS = 240
@@ -52,6 +53,8 @@ OF_TWO_VISITS = 32
 CLOCK_STARTED = 1_000
 LITTLE_ROOM, A_LITTLE = 4_096, 8_192
 MOST_LINES, STATEMENT_HEADING, STATEMENT_LINE = 1_000, 55, 76
+# A Unix socket holds some 200 kilobytes, and so two statements or three.
+MORE_BY_UNIX = 7
 LAST_STATEMENT = STATEMENT.replace(b"Host: bank\r\n", b"Host: bank\r\nConnection: close\r\n")
 
 
@@ -205,7 +208,7 @@ def end_by_order_answers_what_has_come(program, file):
     # The log was taken in: the file alone is the bank.
     alone = file + "-alone"
     shutil.copyfile(file, alone)
-    require(body_of(ended(program, run_words(alone, 700), POST)), b'{"balance":50002,"branch":1,"entry":2}', "the next post")
+    require(body_of(ended(program, run_arguments(alone, 700), POST)), b'{"balance":50002,"branch":1,"entry":2}', "the next post")
 
 
 def end_by_order_answers_what_has_come_on_a_slow_disk(program, file):
@@ -247,7 +250,7 @@ def disk_that_fails_is_reported_once(program, file):
 def end_of_a_file_ends_nothing(program, file):
     """Standard input that is no pipe."""
     def start(port):
-        words = [program, *counter_words(file, "--port", str(port))]
+        words = [program, *counter_arguments(file, "--port", str(port))]
         return subprocess.Popen(words, stdin=subprocess.DEVNULL, stdout=subprocess.PIPE, stderr=subprocess.PIPE)
 
     port, ran, line = listening(start)
@@ -270,7 +273,7 @@ def place_is_one(program, file):
 
 def broken(program, file, *more, **how):
     """Passes if the place can't be bound, which is reported so."""
-    require(run_to_end([program, *counter_words(file, *more)], **how), BROKEN, f"{more}")
+    require(run_to_end([program, *counter_arguments(file, *more)], **how), BROKEN, f"{more}")
     require_sound(program, file)
 
 
@@ -310,7 +313,7 @@ def unix_socket_is_served(program, file):
     """A Unix socket, with the rights that the mask leaves; one that was left by a program that was killed; and what is no
     socket."""
     path = os.path.join(os.path.dirname(file), "counter.socket")
-    words = [program, *counter_words(file, "--socket", path)]
+    words = [program, *counter_arguments(file, "--socket", path)]
     line = b"listening " + path.encode() + b"\n"
     ran = start_at(words, line, umask=0o077)
     require(stat.S_IMODE(os.stat(path).st_mode), 0o700, "rights")
@@ -342,9 +345,9 @@ def unix_socket_is_served(program, file):
     os.remove(path)
 
 
-def inherited_words(program, file, count=1, pid="$$"):
+def inherited_arguments(program, file, count=1, pid="$$"):
     """The arguments by which a shell hands its descriptor 3 over."""
-    inner = " ".join(f"'{it}'" for it in [program, *counter_words(file, "--inherited")])
+    inner = " ".join(f"'{it}'" for it in [program, *counter_arguments(file, "--inherited")])
     return ["sh", "-c", f"LISTEN_FDS={count} LISTEN_PID={pid} exec {inner}"]
 
 
@@ -368,7 +371,7 @@ def inherited_sockets_are_served(program, file):
             listener.listen()
             with socket.socket(listener.family) as first:
                 first.connect(listener.getsockname())
-                ran = start_at(inherited_words(program, file), b"listening inherited\n", **with_descriptor(listener.fileno()))
+                ran = start_at(inherited_arguments(program, file), b"listening inherited\n", **with_descriptor(listener.fileno()))
                 require_soon(first, "the one that waited")
                 with socket.socket(listener.family) as second:
                     second.connect(listener.getsockname())
@@ -382,32 +385,32 @@ def what_is_not_handed_over_is_refused(program, file):
     with socket.socket() as listener:
         listener.bind((HOST, 0))
         for words, how in (
-            ([program, *counter_words(file, "--inherited")], {}),
-            (inherited_words(program, file, count=2), with_descriptor(listener.fileno())),
-            (inherited_words(program, file, pid=1), with_descriptor(listener.fileno())),
-            (inherited_words(program, file), with_descriptor(listener.fileno())),
-            (inherited_words(program, file), with_descriptor(1)),
-            (inherited_words(program, file), {}),
+            ([program, *counter_arguments(file, "--inherited")], {}),
+            (inherited_arguments(program, file, count=2), with_descriptor(listener.fileno())),
+            (inherited_arguments(program, file, pid=1), with_descriptor(listener.fileno())),
+            (inherited_arguments(program, file), with_descriptor(listener.fileno())),
+            (inherited_arguments(program, file), with_descriptor(1)),
+            (inherited_arguments(program, file), {}),
         ):
             require(run_to_end(words, **how), BROKEN, f"{words}")
             require_sound(program, file)
 
 
 class Narrow:
-    """A run of `counter` at a socket of TCP that is handed over, whose connections hold few bytes in the system, on a machine
-    whose clock is set. What is sent to a client has much room there, where that is said. Beside the connections of a trial it has
-    one of its own."""
+    """A run of `counter` at a socket that is handed over, on a machine whose clock is set. The connections of TCP hold few bytes in the
+    system; what is sent to a client has much room there, if that is said. A Unix socket holds as many as the system gives it. Beside
+    the connections of a trial it has one of its own."""
 
-    def __init__(self, program, file, has_room=False):
-        self.machine = Machine(os.path.dirname(file))
+    def __init__(self, program, file, has_room=False, is_unix=False):
+        self.machine, self.is_unix = Machine(os.path.dirname(file)), is_unix
         self.set_clock(0)
-        self.listener = socket.socket()
+        self.listener = socket.socket(socket.AF_UNIX if is_unix else socket.AF_INET)
         if not has_room:
             self.listener.setsockopt(socket.SOL_SOCKET, socket.SO_SNDBUF, LITTLE_ROOM)
-        self.listener.bind((HOST, 0))
+        self.listener.bind(f"{file}-socket" if is_unix else (HOST, 0))
         self.listener.listen()
         how = {"env": self.machine.environment(None), **with_descriptor(self.listener.fileno())}
-        self.ran = start_at(inherited_words(program, file), b"listening inherited\n", **how)
+        self.ran = start_at(inherited_arguments(program, file), b"listening inherited\n", **how)
         self.witness = self.connected()
 
     def __enter__(self):
@@ -424,12 +427,17 @@ class Narrow:
 
     def connected(self):
         """A client that the system holds few bytes for."""
-        client = socket.socket()
+        client = socket.socket(self.listener.family)
         client.setsockopt(socket.SOL_SOCKET, socket.SO_RCVBUF, LITTLE_ROOM)
         client.settimeout(SECONDS)
         client.connect(self.listener.getsockname())
-        client.setsockopt(socket.IPPROTO_TCP, socket.TCP_NODELAY, 1)
+        if not self.is_unix:
+            client.setsockopt(socket.IPPROTO_TCP, socket.TCP_NODELAY, 1)
         return client
+
+    def more(self):
+        """How many statements are asked for before the last: with that they are more than the system holds."""
+        return MORE_BY_UNIX if self.is_unix else 0
 
     def visit(self, *clients):
         """Waits until all that these have sent was seen, and who is late was let go: a second reply comes after the turn of the
@@ -439,6 +447,13 @@ class Narrow:
         for _ in range(2):
             self.witness.sendall(BALANCE)
             require(reply_of(self.witness)[:15], BALANCE_REPLY[:15], "a balance beside the others")
+
+    def fill(self, client):
+        """Waits until a turn of a client adds nothing to what it has to read, as the system takes no more for it."""
+        held, before = 0, -1
+        while held > before:
+            self.visit()
+            before, held = held, bytes_at(client, termios.FIONREAD)
 
     def set_clock(self, seconds):
         """Sets the clock to this many seconds after it was started."""
@@ -452,7 +467,7 @@ class Narrow:
 
 def make_long(program, file):
     """Makes the statement of a bank as long as one may be."""
-    require(ended(program, run_words(file, 700), POST * MOST_LINES).count(b'"entry":'), MOST_LINES, "posts")
+    require(ended(program, run_arguments(file, 700), POST * MOST_LINES).count(b'"entry":'), MOST_LINES, "posts")
 
 
 def is_open(client):
@@ -474,10 +489,10 @@ def require_open(clients, is_so, when):
         require(is_open(client), is_so, f"whether {name} is there {when}")
 
 
-def half_message_is_let_go(program, file):
+def half_message_is_let_go(program, file, is_unix=False):
     """A message that does not become whole, at once or byte by byte, is let go 30 seconds after its first byte, and who says
     nothing is not. One that was answered has 30 seconds for its next message."""
-    with Narrow(program, file) as counter, contextlib.ExitStack() as open_ones:
+    with Narrow(program, file, is_unix=is_unix) as counter, contextlib.ExitStack() as open_ones:
         half, slow, next_one, silent = (open_ones.enter_context(counter.connected()) for _ in range(4))
         half.sendall(BALANCE[:-1])
         slow.sendall(BALANCE[:1])
@@ -503,14 +518,15 @@ def half_message_is_let_go(program, file):
         require(reply_of(silent), BALANCE_REPLY, "one that said nothing until then")
 
 
-def unread_replies_are_let_go(program, file):
+def unread_replies_are_let_go(program, file, is_unix=False):
     """A client that takes nothing of its reply, and one that takes some now and then, are let go after 30 seconds."""
     make_long(program, file)
-    with Narrow(program, file) as counter, contextlib.ExitStack() as open_ones:
+    with Narrow(program, file, is_unix=is_unix) as counter, contextlib.ExitStack() as open_ones:
         nothing, little = (open_ones.enter_context(counter.connected()) for _ in range(2))
         for it in (nothing, little):
-            it.sendall(STATEMENT)
-        counter.visit(nothing, little)
+            it.sendall(STATEMENT * (counter.more() + 1))
+            require(it.recv(1, socket.MSG_PEEK), b"H", "the first byte of the reply")
+        counter.visit()
         taken = 0
         for second in (10, 20, MOST_SECONDS - 1):
             counter.wait(second)
@@ -524,7 +540,7 @@ def unread_replies_are_let_go(program, file):
                 count += len(read_to_end(client))
             except TimeoutError:
                 raise Late(f"one that took {name} was not let go after 30 seconds") from None
-            if count >= MOST_LINES * STATEMENT_LINE:
+            if count >= (counter.more() + 1) * MOST_LINES * STATEMENT_LINE:
                 raise Wrong(f"one that took {name} got all {count} bytes after 30 seconds")
 
 
@@ -534,27 +550,73 @@ def send_to(client, given):
         client.sendall(given)
 
 
-def last_reply_arrives_whole(program, file, has_room=False, beyond=b""):
+def last_reply_arrives_whole(program, file, has_room=False, beyond=b"", is_unix=False):
     """A statement of more than the system holds, after which the connection ends. Its client reads none of it before the program
     has sent what the system takes, and then a little at a time."""
     make_long(program, file)
-    with Narrow(program, file, has_room) as counter, counter.connected() as client:
-        sender = threading.Thread(target=send_to, args=(client, LAST_STATEMENT + beyond))
+    with Narrow(program, file, has_room, is_unix) as counter, counter.connected() as client:
+        sender = threading.Thread(target=send_to, args=(client, STATEMENT * counter.more() + LAST_STATEMENT + beyond))
         sender.start()
         require(client.recv(1, socket.MSG_PEEK), b"H", "the first byte of the reply")
-        counter.visit()
+        counter.fill(client)
         pieces = []
         with contextlib.suppress(ConnectionError):
             while piece := client.recv(A_LITTLE):
                 pieces.append(piece)
         sender.join()
-        reply, length = parsed(b"".join(pieces)), STATEMENT_HEADING + MOST_LINES * STATEMENT_LINE
-        require((reply.fields.get("Connection"), len(reply.body)), ("close", length), "the end of the connection, and bytes of the reply")
+        replies, length = [parsed(it) for it in replies_in(b"".join(pieces))], STATEMENT_HEADING + MOST_LINES * STATEMENT_LINE
+        require([len(it.body) for it in replies], [length] * (counter.more() + 1), "bytes of the replies")
+        require([it.fields.get("Connection") for it in replies], [None] * counter.more() + ["close"], "the end of the connection")
 
 
 def last_reply_arrives_whole_where_more_was_sent(program, file):
     """The same where the system takes all of it at once, and more than it holds was sent beyond the last message."""
     last_reply_arrives_whole(program, file, True, b"x" * 1_000_000)
+
+
+def half_message_at_a_unix_socket_is_let_go(program, file):
+    """The same at a Unix socket."""
+    half_message_is_let_go(program, file, is_unix=True)
+
+
+def unread_replies_at_a_unix_socket_are_let_go(program, file):
+    """The same at a Unix socket, of several statements."""
+    unread_replies_are_let_go(program, file, is_unix=True)
+
+
+def last_reply_arrives_whole_at_a_unix_socket(program, file):
+    """The same at a Unix socket, of several statements, and with more sent beyond the last message."""
+    last_reply_arrives_whole(program, file, beyond=b"x" * 1_000_000, is_unix=True)
+
+
+def socket_of_a_busy_one_stays(program, file):
+    """A Unix socket whose owner is too busy to accept, as many wait to be accepted already."""
+    path = os.path.join(os.path.dirname(file), "busy.socket")
+    with socket.socket(socket.AF_UNIX) as busy, contextlib.ExitStack() as open_ones:
+        busy.bind(path)
+        busy.listen(0)
+        kept, is_full = os.stat(path).st_ino, False
+        while not is_full:
+            client = open_ones.enter_context(socket.socket(socket.AF_UNIX))
+            client.setblocking(False)
+            try:
+                client.connect(path)
+            except BlockingIOError:
+                is_full = True
+        broken(program, file, "--socket", path)
+        require(os.stat(path).st_ino, kept, "the socket of a busy one")
+
+
+def rights_at_a_file_are_those_of_the_mask(program, file):
+    """Of a bank's file and its log only its owner writes, and others read only if the mask lets them."""
+    for mask, rights in ((0, 0o644), (0o027, 0o640), (0o077, 0o600)):
+        made = f"{file}-{mask:o}"
+        require(run_to_end([program, "init", made, LISTS, "--sums"], umask=mask), (0, b"made\n", b""), "its beginning")
+        with Counter(program, made, umask=mask) as counter:
+            asked(counter.port, message("tess", "/session"))
+            found = [stat.S_IMODE(os.stat(made + it).st_mode) for it in ENDINGS]
+            counter.require_done()
+        require(found, [rights] * len(ENDINGS), f"rights with the mask {mask:o}")
 
 
 TRIALS = [
@@ -577,6 +639,11 @@ TRIALS = [
     unread_replies_are_let_go,
     last_reply_arrives_whole,
     last_reply_arrives_whole_where_more_was_sent,
+    half_message_at_a_unix_socket_is_let_go,
+    unread_replies_at_a_unix_socket_are_let_go,
+    last_reply_arrives_whole_at_a_unix_socket,
+    socket_of_a_busy_one_stays,
+    rights_at_a_file_are_those_of_the_mask,
 ]
 
 

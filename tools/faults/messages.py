@@ -54,11 +54,11 @@ class Messages:
             self.all.append(Message(given, self.all[-1].end if self.all else 0, reply))
 
     def whole(self, size):
-        """How many messages are whole in the first so many bytes."""
+        """How many messages are whole in the first `size` bytes."""
         return sum(it.end <= size for it in self.all)
 
     def replies(self, count=None):
-        """The replies to the first so many messages, or to all."""
+        """The replies to the first `count` messages, or to all."""
         return b"".join(it.reply for it in self.all[:count])
 
     def pieces(self):
@@ -67,7 +67,7 @@ class Messages:
         return [self.given[begin:end] for begin, end in zip(begins, [*begins[1:], len(self.given)])]
 
     def ended(self, size):
-        """How a run ends that is sent the first so many bytes: the status, and what is written to both streams."""
+        """How a run ends that is sent the first `size` bytes: the status, and what is written to both streams."""
         whole = self.whole(size)
         last = self.all[whole - 1] if whole else None
         rest = self.given[last.end if last else 0 : size]
@@ -86,5 +86,5 @@ class Messages:
 
 
 def is_tried(at, size):
-    """Whether a message of a size is cut after so many bytes."""
+    """Whether a message of a size is cut after its first `at` bytes."""
     return size <= LONG or at <= EDGE or size - at <= EDGE or at % SPARSE == 0

@@ -23,7 +23,7 @@ from functools import partial
 from typing import NamedTuple
 
 from cases.suite import Suite
-from checks import Check, Wrong, outcome, reader, reason, run_checks
+from checks import Check, Wrong, lacks_stores, outcome, reader, reason, run_checks
 from faults.disk_calls import Watched
 from faults.earlier_files import EARLIER_VERSIONS
 from faults.file_kinds import KINDS, SEVERAL
@@ -78,11 +78,12 @@ CUT = """
 
 
 class Line(NamedTuple):
-    """A line of the table: what fails, what makes the works, by their names, and what must hold."""
+    """A line of the table: what fails, what makes the works, by their names, and what must hold; and what they lack, if anything."""
 
     faults: list
     works: dict
     holds: str
+    lacks: str = ""
 
 
 def moment_of(case):
@@ -100,6 +101,7 @@ class Table:
         self.earlier = dict(zip(EARLIER_VERSIONS, given.earlier))
         self.folder = folder
         self.step = given.step
+        self.lacks_stores = lacks_stores(given)
         self.suite = Suite()
         self.known = set()
         is_all = given.cases == ["all"]
@@ -159,6 +161,8 @@ class Table:
         several = {SEVERAL.name: partial(Run, self.program, self.sample, SEVERAL, self.folder)}
         cuts = {it: partial(self.cut_case, it) for it in self.cut}
         disk = [Disk(f"a call to the disk, {it}", self.watched, it) for it in Disk.WAYS]
+        ends = [Cut("the input in two pieces"), Ended("the end of the input")]
+        whole = "what came whole is answered and carried out, and nothing else"
         return [
             Line(
                 [Memory("a call for memory", self.memory, 0, 1, 7)],
@@ -196,11 +200,8 @@ class Table:
                 self.forwards(),
                 "the new file has no bank, and `forward` then makes it, or the whole next year's; the old file has the bytes that it had",
             ),
-            Line(
-                [Cut("the input in two pieces"), Ended("the end of the input")],
-                cuts | several,
-                "what came whole is answered and carried out, and nothing else",
-            ),
+            Line(ends, cuts, whole, self.lacks_stores),
+            Line(ends, several, whole),
             Line(
                 [
                     Failing("a read", self.streams, "read"),
@@ -238,17 +239,18 @@ def passes(fault, make, holds, room, pool):
 
 
 def main():
-    words = reader(__doc__)
-    words.add_argument("--step", type=int, default=STEP)
-    words.add_argument("--cases", nargs="+", default=[])
-    words.add_argument("--earlier", nargs="+", type=os.path.abspath, default=[])
-    given = words.parse_args()
+    arguments = reader(__doc__, has_stores=True)
+    arguments.add_argument("--step", type=int, default=STEP)
+    arguments.add_argument("--cases", nargs="+", default=[])
+    arguments.add_argument("--earlier", nargs="+", type=os.path.abspath, default=[])
+    given = arguments.parse_args()
     with ThreadPoolExecutor(os.cpu_count()) as pool:
         def checks_of(room):
             for line in Table(given, room).lines():
-                for name, make in line.works.items():
-                    work = functools.cache(make)
+                for name, work_of in line.works.items():
+                    work = functools.cache(work_of)
                     for fault in line.faults:
-                        yield Check(f"{fault.name}, {name}", partial(passes, fault, work, line.holds, room, pool))
+                        make = partial(passes, fault, work, line.holds, room, pool)
+                        yield Check(f"{fault.name}, {name}", make, line.lacks)
 
-        return run_checks(given, checks_of, programs=[given.program, OVER, *given.earlier])
+        return run_checks(given, checks_of, programs=[given.program, *given.earlier])

@@ -5,7 +5,7 @@
 The banks are those of migrations/version-1 and migrations/version-2, each made as a file by Python's sqlite3, or byte for byte as
 a kill left it. `check` has to report another version of each, and to leave it alone. `upgrade` has to print `carried over`, and
 the file alone has to be the bank: a log beside it has no page, and is taken away. Python's sqlite3 has to find in it the tables
-that `init` makes, in their order, with the rows that it had, but for the version; for triples of the first version, which stand
+that `init` makes, in their order, with the rows of the earlier file, but for the version; for triples of the first version, which stand
 in `grants` with the widest moments; and for slips, of which nobody has any. `check` has to pass it, a second `upgrade` has to
 report another version and leave it alone, and `run` has to answer the requests of the row as the program of that schema version
 did; in a listing each triple has its moments, too.
@@ -249,9 +249,9 @@ def deeds_of(upgrades):
 
 
 def main():
-    words = reader(__doc__)
-    words.add_argument("earlier", metavar="EARLIER", nargs="*", type=os.path.abspath, help="programs of the earlier schema versions")
-    given = words.parse_args()
+    arguments = reader(__doc__)
+    arguments.add_argument("earlier", metavar="EARLIER", nargs="*", type=os.path.abspath, help="programs of the earlier schema versions")
+    given = arguments.parse_args()
     programs = dict(zip(EARLIER_VERSIONS, given.earlier))
 
     @functools.cache

@@ -16,12 +16,12 @@ from faults.file_kinds import KINDS, YEAR, answered
 from faults.messages import Messages
 from model.bank import MOMENT, Bank
 from replies import END_OF_HEAD, replies_in, size_of
-from sample_file import LISTS, copy_bank, ended, require_sound, run_to_end, run_words
-from serving import asked, free_port, serve_words
+from sample_file import LISTS, copy_bank, ended, require_sound, run_to_end, run_arguments
+from serving import asked, at_free_port, serve_arguments
 
 BROKEN = b"stream: broken\n"
 # How long a page of a new file is, in bytes.
-PAGE = 1024
+PAGE = 512
 MADE = (0, b"made\n", b"")
 FORWARDED = (0, b"carried forward\n", b"")
 NO_BANK = {b"file: not read\n", b"file: not a bank\n"}
@@ -169,7 +169,7 @@ class Init(Work):
         """Passes if the bank is sound, its pages are those that were asked for, and nothing else is left. Half a page may
         stand in the file while the log has all of it, until a run copies that."""
         require_sound(self.program, file)
-        ended(self.program, run_words(file, MOMENT))
+        ended(self.program, run_arguments(file, MOMENT))
         page_sums.require_pages(file, PAGE, bool(self.sums))
         if os.path.lexists(file + "-new"):
             raise Wrong("beside it the file of the first page is left")
@@ -199,7 +199,7 @@ class Forward(Work):
         self.old = os.path.join(room, "before-" + self.name.replace(" ", "-"))
         copy_bank(sample, self.old)
         _, given, replies = answered(Bank(), YEAR)
-        said = ended(program, run_words(self.old, MOMENT), given)
+        said = ended(program, run_arguments(self.old, MOMENT), given)
         if said != b"".join(replies) or said.count(b" 200 OK") != len(YEAR):
             raise Wrong(f"it answered {said!r}; due was {b''.join(replies)!r}")
         self.after = begun(Tables(self.old).rows)
@@ -224,7 +224,7 @@ class Forward(Work):
                 raise Wrong(f"check ended with {checked!r}")
             require_said(self.program, self.arguments(file), FORWARDED)
             require_sound(self.program, file)
-        ended(self.program, run_words(file, MOMENT))
+        ended(self.program, run_arguments(file, MOMENT))
         page_sums.require_pages(file, PAGE, bool(self.sums))
         tables = Tables(file)
         difference = difference_of(tables.rows, self.after)
@@ -320,7 +320,7 @@ class Run(Work):
         self.is_idle = not is_changed or all(it.slip for it in kind.asked)
 
     def arguments(self, file):
-        return run_words(file, MOMENT)
+        return run_arguments(file, MOMENT)
 
     def require_answered(self, file, given, replies):
         """Passes if what is given is answered so."""
@@ -404,15 +404,18 @@ class Serve(Run):
     def made(self, run, file, given=None):
         """How it ends, but for what was written: the reply that the client got, or None where the run did not listen, or no
         more."""
-        port, replies = free_port(), []
+        def served(port):
+            replies = []
 
-        def ask(process):
-            if process.stdout.readline():
-                with contextlib.suppress(ConnectionRefusedError):
-                    replies.append(asked(port, self.given))
+            def ask(process):
+                if process.stdout.readline():
+                    with contextlib.suppress(ConnectionRefusedError):
+                        replies.append(asked(port, self.given))
 
-        status, _, errors = run(serve_words(file, port, 1), b"", ask)
-        return status, replies[0] if replies else None, errors
+            status, _, errors = run(serve_arguments(file, port, 1), b"", ask)
+            return status, replies[0] if replies else None, errors
+
+        return at_free_port(served, lambda it: it[1] is not None)
 
     def judged(self, said, file, fault, _):
         """The same, but for the moments of entries and lines, which its clock gives; a connection may end with no reply."""

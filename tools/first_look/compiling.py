@@ -11,12 +11,15 @@ import subprocess
 import sys
 import tempfile
 import time
+from collections.abc import Callable
 
-from repository import BANK_PROGRAM, TOP, below, copy_crates, kit, words_of_all
+from repository import BANK_PROGRAM, TOP, below, copy_crates, kit, dependencies
 from toolchain.kept import sum_of_kit
 
-# Only tools/try takes a program from here. A new one replaces the others.
-KEPT = os.path.join(TOP, "crates", BANK_PROGRAM, "out", "first-look")
+# Only tools/try takes a program from here, and tools/test --quick one that takes longer to compile and is quicker. A new one
+# replaces the others.
+OUT = os.path.join(TOP, "crates", BANK_PROGRAM, "out")
+FIRST, QUICK = "first-look", "quick"
 # How long the compiled program may take to print its help.
 SECONDS = 60
 # What has to be a file in the copy of the toolchain, and not a link: rt finds the rest beside itself.
@@ -36,11 +39,13 @@ LINKER = """#!/bin/bash
 set -eu
 arguments=("$@")
 for i in "${!arguments[@]}"; do [ "${arguments[i]}" != input-0 ] || arguments[i]='PROGRAM.bc'; done
-'KIT/toolchain/bin/ld.lld' --lto-O0 --lto-CGO0 --lto-newpm-passes=globaldce,asan --lto-partitions=PROCESSORS \\
+'KIT/toolchain/bin/ld.lld' PASSES --lto-partitions=PROCESSORS \\
     -mllvm -no-trap-after-noreturn -mllvm -trap-unreachable -mllvm -no-x86-call-frame-opt -mllvm -disable-machine-licm \\
     -mllvm -disable-postra-machine-licm -mllvm -sink-common-insts=false "${arguments[@]}"
 cp program 'PROGRAM'
 """
+# What the linker does to the functions of each kind of program.
+PASSES = {FIRST: "--lto-O0 --lto-CGO0 --lto-newpm-passes=globaldce,asan", QUICK: "--lto-O1 --lto-CGO1"}
 NO_PROVER = "#!/bin/sh\nexit 2\n"
 REPLACED = {"toolchain/bin/clang": COMPILER, "toolchain/bin/ld.lld": LINKER, "bin/rattle": NO_PROVER}
 
@@ -61,9 +66,9 @@ def link_all(folder: str, to: str, but: list[str]) -> None:
             link_all(os.path.join(folder, name), os.path.join(to, name), inside)
 
 
-def toolchain_that_keeps(to: str, program: str, replaced: dict[str, str]) -> str:
-    """Makes a copy of the toolchain, of links and of these texts in place of files of its own, whose linker leaves the program at
-    a path, and returns the path of its rt."""
+def toolchain_that_keeps(to: str, program: str, replaced: dict[str, str], kind: str = FIRST) -> str:
+    """Makes a copy of the toolchain, of links and of these texts in place of files of its own, whose linker leaves a program of
+    this kind at a path, and returns the path of its rt."""
     home, processors = kit(), str(len(os.sched_getaffinity(0)))
     link_all(home, to, [*OWN_FILES, *replaced])
     for name in OWN_FILES:
@@ -71,7 +76,8 @@ def toolchain_that_keeps(to: str, program: str, replaced: dict[str, str]) -> str
     for name, text in replaced.items():
         path = os.path.join(to, name)
         with open(path, "w", encoding="utf-8") as file:
-            file.write(text.replace("KIT", home).replace("PROGRAM", program).replace("PROCESSORS", processors))
+            text = text.replace("KIT", home).replace("PROGRAM", program).replace("PROCESSORS", processors)
+            file.write(text.replace("PASSES", PASSES[kind]))
         os.chmod(path, 0o755)
     return os.path.join(to, "bin", "rt")
 
@@ -79,7 +85,7 @@ def toolchain_that_keeps(to: str, program: str, replaced: dict[str, str]) -> str
 def sources() -> list[str]:
     """The files that the program is made of, in order: those of its crates, and this one."""
     found = [os.path.join(TOP, "crates.txt"), os.path.abspath(__file__)]
-    for crate in below(words_of_all(), [BANK_PROGRAM]):
+    for crate in below(dependencies(), [BANK_PROGRAM]):
         for part in ("src", "specs"):
             for folder, folders, files in os.walk(os.path.join(TOP, "crates", crate, part)):
                 folders.sort()
@@ -99,45 +105,56 @@ def checksum() -> str:
 
 def keep(made: str, program: str) -> None:
     """Puts a compiled program in the place of those that were kept."""
-    os.makedirs(KEPT, exist_ok=True)
-    for name in os.listdir(KEPT):
-        os.remove(os.path.join(KEPT, name))
+    kept = os.path.dirname(program)
+    os.makedirs(kept, exist_ok=True)
+    for name in os.listdir(kept):
+        os.remove(os.path.join(kept, name))
     shutil.copy(made, f"{program}.new")
     os.rename(f"{program}.new", program)
 
 
-def compile_to(program: str) -> bool:
-    """Compiles the program, keeps it, and returns whether it compiled. Otherwise the compiler's last lines are printed."""
+def compile_copy(copy: str, room: str, kind: str) -> str | None:
+    """Compiles the program of a copy of its crates, with what that takes in a folder beside it, and returns its path; none if it does
+    not compile. Then the compiler's last lines are printed."""
+    made = os.path.join(room, "made")
+    rt = toolchain_that_keeps(os.path.join(room, "kit"), made, REPLACED, kind)
+    ran = subprocess.run(
+        [rt, "try", "--seconds", str(SECONDS), "--", "--help"],
+        cwd=os.path.join(copy, "crates", BANK_PROGRAM),
+        stdin=subprocess.DEVNULL,
+        stdout=subprocess.PIPE,
+        stderr=subprocess.STDOUT,
+        check=False,
+    )
+    if ran.returncode or not os.path.isfile(made):
+        say(f"the program does not compile:\n{ran.stdout.decode(errors='replace')[-4000:]}")
+        return None
+    return made
+
+
+def compile_to(program: str, kind: str, prepare: Callable[[str], None] = lambda copy: None) -> bool:
+    """Compiles the program from a copy of its crates that is prepared before, keeps it, and returns whether it compiled."""
     with tempfile.TemporaryDirectory(prefix="tespiorvu-try-") as room:
-        copy, made = os.path.join(room, "copy"), os.path.join(room, "made")
-        copy_crates(copy, below(words_of_all(), [BANK_PROGRAM]))
-        rt = toolchain_that_keeps(os.path.join(room, "kit"), made, REPLACED)
-        ran = subprocess.run(
-            [rt, "try", "--seconds", str(SECONDS), "--", "--help"],
-            cwd=os.path.join(copy, "crates", BANK_PROGRAM),
-            stdin=subprocess.DEVNULL,
-            stdout=subprocess.PIPE,
-            stderr=subprocess.STDOUT,
-            check=False,
-        )
-        if ran.returncode or not os.path.isfile(made):
-            say(f"the program does not compile:\n{ran.stdout.decode(errors='replace')[-4000:]}")
-            return False
-        keep(made, program)
-    return True
+        copy = os.path.join(room, "copy")
+        copy_crates(copy, below(dependencies(), [BANK_PROGRAM]))
+        prepare(copy)
+        made = compile_copy(copy, room, kind)
+        if made:
+            keep(made, program)
+    return made is not None
 
 
-def compiled() -> str | None:
-    """The path of the program, compiled first if a source has changed; none if it does not compile."""
+def compiled(kind: str = FIRST) -> str | None:
+    """The path of the program of this kind, compiled first if a source has changed; none if it does not compile."""
     if not shutil.which("rt"):
         say("there is no rt: the toolchain's bin/ has to be on the path (README.md)")
         return None
-    program = os.path.join(KEPT, checksum())
+    program = os.path.join(OUT, kind, checksum())
     if os.path.isfile(program):
         return program
     say("compiling, once: three minutes on a quiet machine, up to eighteen on a busy one; it takes 3 GB of memory")
     begun = time.monotonic()
-    if not compile_to(program):
+    if not compile_to(program, kind):
         return None
     say(f"compiled in {time.monotonic() - begun:.0f} seconds")
     return program

@@ -13,8 +13,10 @@ PORT = "0.0.0.0:443"
 A_PORT = "127.0.0.1:44300"
 NO_COMMAND = re.compile(r"Command (\S+) is not executable: No such file")
 # How exposed a unit may be, of 10, by its name; and any other.
-EXPOSURES = {"bank.service": 0.5, "bank-copy.service": 0.7, "bank-certificates.service": 1.1, "bank-night.service": 1.5,
-             "bank-branch.service": 8.0, "bank-stand-by.service": 7.8} # these two mount a disk for all, and load DRBD
+EXPOSURES = {"bank.service": 0.5, "bank-trail.service": 0.5, "bank-copy.service": 0.7, "bank-audit.service": 0.9, "bank-seal.service": 0.9, "bank-certificates.service": 1.1,
+             "bank-disk.service": 1.1, "bank-night.service": 1.5, "bank-renew.service": 1.5, "bank-limits.service": 1.7,
+             # These mount a disk for all, or load DRBD.
+             "bank-branch.service": 4.8, "bank-stand-by.service": 4.7, "bank-rooms.service": 3.6}
 MOST_EXPOSED = 2.4
 EXPOSURE = re.compile(r"Overall exposure level for (\S+): ([\d.]+)")
 
@@ -41,7 +43,7 @@ def nginx(top: str) -> list[str]:
                 text = file.read()
             with open(path, "w", encoding="utf-8") as file:
                 file.write(moved(text, room))
-        for it in ("run/bank-front", "var/log/bank-front"):
+        for it in ("run/bank-front", "run/bank-trail"):
             os.makedirs(os.path.join(room, it))
         with open(os.path.join(folder, "origins.map"), "a", encoding="utf-8"):
             pass

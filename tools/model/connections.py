@@ -177,7 +177,7 @@ def replaced(connection: Connection, port: int, rng: Random) -> Connection:
     return Connection(port)
 
 
-def told_of(bank: Bank, talks: list[Exchanges], told: Counts) -> None:
+def stated_of(bank: Bank, talks: list[Exchanges], told: Counts) -> None:
     """Counts the replies of a round. Which are given once more is judged by the bank before it."""
     for request, reply in (it for talk in talks for it in talk):
         count(told, int(reply.split(b" ", 2)[1]), reply, is_repeat(bank, request))
@@ -189,7 +189,7 @@ def serve_rounds(counter: Served, file: str, room: str, rng: Random, told: Count
     connections = [Connection(counter.port) for _ in range(CONNECTIONS)]
     for _ in range(ROUNDS):
         talks = conversed(counter.run, connections, bank, rng, moment)
-        told_of(bank, talks, told)
+        stated_of(bank, talks, told)
         bank = explained(bank, talks, without_moments(rows_of_file(file, room)))
         connections = [replaced(it, counter.port, rng) for it in connections]
     counter.require_done()

@@ -73,8 +73,8 @@ ASKED_BY_TELLERS = ["session", "end", *OF_TELLERS * 3, *["post", "transfer", "co
 ASKED_BY_SUPERVISOR = ["session", "end", *["new-account", "release", "proof", "close-day", "balance", "accounts", "slip again"] * 3, "post", "statement"]
 ASKED_BY_OTHERS = ["session", "end", *OF_TELLERS, "new-account", "release", "close-day", "define-set", "grant", "revoke", "enrol", "suspend", "restore"]
 REQUESTS_BEFORE = 60
-# Requests of a kind are drawn until one is allowed, so many of so many kinds. So often the first is sent as it is, and so often
-# of these its body is spoiled.
+# Requests of a kind are drawn until one is allowed: DRAWS of each kind at most, of KINDS_TRIED kinds. In a share ANY of all draws the
+# first is sent as it is, and in a share of these its body is spoiled.
 KINDS_TRIED = 4
 DRAWS = 20
 ANY = 0.4

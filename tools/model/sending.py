@@ -10,12 +10,12 @@ from concurrent.futures import ProcessPoolExecutor
 from random import Random
 from typing import NamedTuple
 
-from checks import Report, Wrong, outcome, reader, reason, refuse
+from checks import Check, Report, Wrong, outcome, reader, reason, refuse
 from model.answers import is_allowed
 from model.bank import BADGES, COMMANDS, OPERATIONS, RULES, Bank, Body, without_member
 from model.requests import DRAWN, Request, again, any_slip, slips_of, spoiled
 from repository import are_built
-from sample_file import make_sample, require_sound, run_words
+from sample_file import make_sample, require_sound, run_arguments
 
 # How often each reply was given, by its status or the rule that denies, by `report` and by `again`.
 Counts = Counter[str | int]
@@ -60,7 +60,7 @@ WEIGHTS = {
 ANY = 0.35
 BY_ANYONE = 0.4
 SPOILED = 0.1
-# Otherwise requests of a kind are drawn until one is allowed, so many of so many kinds.
+# Otherwise requests of a kind are drawn until one is allowed: DRAWS of each kind at most, of KINDS_TRIED kinds.
 KINDS_TRIED = 4
 DRAWS = 20
 # What stands in a reply that denies, and in one that is a report.
@@ -73,14 +73,15 @@ def absolute(path: str) -> str:
     return os.path.abspath(path)
 
 
-def arguments(description: str | None, streams: int, **programs: str) -> argparse.Namespace:
-    """What the command line says: how many streams, by which seed, and over which programs; or else these, and the seed 1."""
-    words = reader(description, program=None, has_checks=False)
-    words.add_argument("streams", metavar="N", nargs="?", type=int, default=streams)
-    words.add_argument("seed", metavar="SEED", nargs="?", type=int, default=1)
+def arguments(description: str | None, streams: int, *, has_stores: bool = False, **programs: str) -> argparse.Namespace:
+    """What the command line says: how many streams, by which seed, and over which programs; or else these, and the seed 1; and
+    whether stores are left out, if some are sent to those."""
+    arguments = reader(description, program=None, has_checks=False, has_stores=has_stores)
+    arguments.add_argument("streams", metavar="N", nargs="?", type=int, default=streams)
+    arguments.add_argument("seed", metavar="SEED", nargs="?", type=int, default=1)
     for name, program in programs.items():
-        words.add_argument(name, metavar=name.upper(), nargs="?", type=absolute, default=program)
-    return words.parse_args()
+        arguments.add_argument(name, metavar=name.upper(), nargs="?", type=absolute, default=program)
+    return arguments.parse_args()
 
 
 def of_kind(bank: Bank, kind: str, rng: Random, moment: int) -> Request:
@@ -155,7 +156,7 @@ def compare(store: str, words: list[str], part: Part) -> None:
 def compare_file(name: str, program: str, file: str, parts: Iterable[Part]) -> None:
     """Sends the parts of a stream to a bank in a file, each by a run of its moment. `check` has to find its books sound then."""
     for part in parts:
-        compare(name, [program, *run_words(file, part.moment)], part)
+        compare(name, [program, *run_arguments(file, part.moment)], part)
     require_sound(program, file)
 
 
@@ -206,13 +207,15 @@ def as_text(told: Counts) -> tuple[str, bool]:
     return said, 0 < requests <= 2 * allowed
 
 
-def run_streams(given: argparse.Namespace, kinds: Sequence[Kind], programs: Programs) -> int:
-    """Sends the streams of each kind, over these programs and the sample bank in a file. The exit status."""
-    if not are_built(*programs):
+def run_streams(given: argparse.Namespace, kinds: Sequence[Kind], programs: Programs, skipped: Sequence[Check] = ()) -> int:
+    """Sends the streams of each kind, over these programs, of which one that is left out has no path, and the sample bank in a file.
+    What is skipped for want of one is said. The exit status."""
+    if not are_built(*filter(None, programs)):
         return refuse("there is no program")
     seeds = [f"{given.seed} {number}" for number in range(1, given.streams + 1)]
     of_kinds = [seeds[: -(-len(seeds) // it.of_seeds)] for it in kinds]
     report = Report(sum(map(len, of_kinds)) + len(kinds))
+    report.able(skipped)
     with tempfile.TemporaryDirectory(prefix="bank-streams-") as room:
         bank = os.path.join(room, "bank")
         try:

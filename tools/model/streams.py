@@ -4,7 +4,7 @@ bank_answers). Then it sends streams whose moment moves on, so that triples begi
 and one user's operations and sessions, whose moment moves on, too, to two banks in files that differ in all that they don't
 touch (bank_pairs): both have to write the same bytes.
 
-    tools/model/streams [N [SEED [PROGRAM [BANK]]]]
+    tools/model/streams [--no-stores] [N [SEED [PROGRAM [BANK]]]]
 
 N streams are sent, 200 where it is left out, each of 300 requests, and a fourth as many of either other kind. SEED is 1,
 PROGRAM is crates/test_stores/out/test_stores and BANK, the program that has banks in files, crates/bank_cli/out/bank_cli where
@@ -23,13 +23,13 @@ import tempfile
 from collections.abc import Sequence
 from random import Random
 
-from checks import Wrong
+from checks import Check, Wrong, lacks_stores
 from model.answers import answer, is_repeat
 from model.bank import MOMENT, MOMENTS, Bank
 from model.pairs import Made, by_user, pair_of, write_lists
 from model.sending import Counts, Kind, Part, Programs, arguments, compare, compare_file, count, drawn, run_streams
 from repository import OVER, PROGRAM
-from sample_file import copy_bank, ended, run_words
+from sample_file import copy_bank, ended, run_arguments
 
 STREAMS = 200
 REQUESTS = 300
@@ -86,9 +86,9 @@ def compare_copy(programs: Programs, parts: list[Part]) -> None:
 
 
 def compared(programs: Programs, seed: str) -> Counts:
-    """Sends the stream of a seed to each store, and returns how often each reply was given."""
+    """Sends the stream of a seed to each store, unless they are left out, and to a file, and returns how often each reply was given."""
     parts, told = stream_of(seed, [MOMENT])
-    for store in STORES:
+    for store in STORES if programs[0] else ():
         compare(store, [programs[0], store, str(MOMENT)], parts[0])
     compare_copy(programs, parts)
     return told
@@ -110,7 +110,7 @@ def compared_two(programs: Programs, seed: str) -> Counts:
             file, lists = os.path.join(room, f"bank-{number}"), os.path.join(room, f"lists-{number}")
             write_lists(made.opening, lists)
             ended(program, ["init", file, lists])
-            before = ended(program, run_words(file, MOMENT), b"".join(made.before))
+            before = ended(program, run_arguments(file, MOMENT), b"".join(made.before))
             if before.count(b"HTTP/1.1 200 OK") != len(made.before):
                 raise Wrong("not all that comes before was allowed")
             compare_file(f"bank {number}", program, file, parts)
@@ -118,6 +118,8 @@ def compared_two(programs: Programs, seed: str) -> Counts:
 
 
 def main() -> int:
-    given = arguments(__doc__, STREAMS, program=OVER, bank=PROGRAM)
+    given = arguments(__doc__, STREAMS, has_stores=True, program=OVER, bank=PROGRAM)
+    over = "" if given.no_stores else given.program
+    skipped = [] if over else [Check(f"streams to a store, {it}", lambda: None, lacks_stores(given)) for it in STORES]
     kinds = [Kind("at one moment", compared), Kind("at moments that move on", compared_moving, OF_OTHERS)]
-    return run_streams(given, [*kinds, Kind("to two banks", compared_two, OF_OTHERS)], (given.program, given.bank))
+    return run_streams(given, [*kinds, Kind("to two banks", compared_two, OF_OTHERS)], (over, given.bank), skipped)

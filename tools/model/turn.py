@@ -2,7 +2,7 @@
 bank and answered by it, as it is at the bank that goes on. Written down from docs/GUIDE.md, "A year", alone.
 
 Numbers of entries and turns begin anew in the next year. So what names an entry or a turn there has another number at the bank that
-goes on: by as many as its branch, or its account, had when the year turned.
+goes on: greater by the number of entries of its branch, or of turns of its account, as the year turned.
 """
 import copy
 import json

@@ -35,7 +35,7 @@ PAIRS = 300
 REQUESTS = 100
 LATER = 750
 # How long a page of a new file is, in bytes.
-PAGE = 1024
+PAGE = 512
 # The set of the sample that holds everything.
 ALL = 1
 # A first stream that can't be closed is drawn anew so often.

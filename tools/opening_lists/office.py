@@ -4,17 +4,22 @@ import re
 import tomllib
 from collections import Counter
 from collections.abc import Iterable, Iterator
-from dataclasses import dataclass
+from dataclasses import dataclass, field
 from itertools import pairwise
 from typing import Any, NamedTuple
 
 from opening_lists.columns import CENTS, KEY, LISTS, MOST_USER, PROCEDURE, PROCEDURES, Column, whole, write_list
+from opening_lists.pairs import APART, meeting
+from opening_lists.spreadsheets import SheetRefused, cents_of, records_of
 
 CASH, FLOOR = LISTS["branches"]["cash"], LISTS["accounts"]["floor"]
 LIMIT, NAME = LISTS["triples"]["limit"], LISTS["users"]["name"]
 # What is done on the set of a branch's own accounts and its day; all else is done on that of its counter.
 OF_THE_BRANCH = ("new-account", "accounts", "proof", "close-day")
-ROLES = ("teller", "supervisor")
+ROLES = ("teller", "supervisor", "office")
+# Those of people.csv, of whom officers and certifiers have no triples.
+OFFICES = ("officer", "certifier", *ROLES)
+OF_ACCOUNTS, OF_PEOPLE = ("account", "balance", "floor"), ("badge", "name", "role", "branch", "drawer")
 MOST_INTERVALS = 32
 
 
@@ -32,7 +37,8 @@ class Account(NamedTuple):
 
 @dataclass
 class Branch:
-    """A branch: its cash, the numbers that its accounts may have, the people by badge, and the drawers with nobody yet."""
+    """A branch: its cash, the numbers that its accounts may have, the people by badge, the badges by which the office carries out its
+    runs, with a drawer each, and the drawers with nobody yet."""
 
     number: int
     cash: int
@@ -41,10 +47,11 @@ class Branch:
     tellers: dict[str, int]
     spare_drawers: list[int]
     accounts: list[Account]
+    office: dict[str, int]
 
     def drawers(self) -> list[int]:
         """All its drawers, in order."""
-        return sorted([*self.tellers.values(), *self.spare_drawers])
+        return sorted([*self.tellers.values(), *self.office.values(), *self.spare_drawers])
 
     def balance(self) -> int:
         """What its accounts have together."""
@@ -52,14 +59,15 @@ class Branch:
 
     def may(self) -> Iterator[tuple[str, str]]:
         """Each badge that works here, with its role."""
-        for role, badges in zip(ROLES, (self.tellers, self.supervisors)):
+        for role, badges in zip(ROLES, (self.tellers, self.supervisors, self.office)):
             for badge in badges:
                 yield badge, role
 
 
 @dataclass
 class Office:
-    """An office: who rules, what the roles may do up to which amount, the branches, and names of people."""
+    """An office: who rules, what the roles may do up to which amount, the branches, names of people, and what must not meet in one
+    hand, with the reason of each role or badge in whose it does."""
 
     officers: list[str]
     certifiers: list[str]
@@ -67,10 +75,33 @@ class Office:
     serves_all: bool
     branches: list[Branch]
     names: dict[str, str]
+    apart: tuple[tuple[str, str], ...] = APART
+    together: dict[str, str] = field(default_factory=dict)
+
+    def has(self) -> dict[str, set[str]]:
+        """What each badge may do, wherever."""
+        found: dict[str, set[str]] = {}
+        for branch in self.branches:
+            for badge, role in branch.may():
+                found.setdefault(badge, set()).update(self.limits[role])
+        return found
+
+    def exceptions(self) -> list[str]:
+        """What meets in one hand, each with its reason, or without one."""
+        roles: dict[str, set[str]] = {}
+        for branch in self.branches:
+            for badge, role in branch.may():
+                roles.setdefault(badge, set()).add(role)
+        found = []
+        for badge, one, other in meeting(self.has(), self.apart):
+            own = [it for it in roles[badge] if {one, other} <= set(self.limits[it])]
+            reason = self.together.get(badge) or next((self.together[it] for it in own if it in self.together), "")
+            found.append(f"{badge} may {one} and {other}: {reason}")
+        return found
 
     def users(self) -> dict[str, int]:
         """The user of each badge."""
-        at_work = (it for branch in self.branches for it in [*branch.supervisors, *branch.tellers])
+        at_work = (it for branch in self.branches for it in [*branch.supervisors, *branch.tellers, *branch.office])
         badges = [*self.officers, *self.certifiers, *at_work]
         return {badge: number for number, badge in enumerate(dict.fromkeys(badges), 1)}
 
@@ -130,12 +161,36 @@ def read_accounts(rows: list, numbers: tuple[int, int], where: str) -> list[Acco
     return found
 
 
-def read_branch(table: dict) -> Branch:
-    """A branch of the file."""
+def read_sheet(folder: str, name: str, columns: tuple[str, ...]) -> list[tuple[str, list[str]]]:
+    """The records of a sheet beside the file, each with its place."""
+    try:
+        return [(f"{name}, line {line}", fields) for line, fields in records_of(os.path.join(folder, name), columns)]
+    except SheetRefused as why:
+        raise Refused(f"{name}, {why}") from why
+    except OSError as why:
+        raise Refused(f"{name}: {why.strerror}") from why
+
+
+def accounts_of_sheet(folder: str, name: str, numbers: tuple[int, int]) -> list[Account]:
+    """The accounts of a branch in a sheet, whose amounts are of the currency, and not cents."""
+    found = []
+    for where, (number, balance, floor) in read_sheet(folder, name, OF_ACCOUNTS):
+        try:
+            row = number, cents_of(balance), cents_of(floor or "0")
+        except SheetRefused as why:
+            raise Refused(f"{where}: {why}") from why
+        columns = (whole(*numbers), CENTS, FLOOR)
+        found.append(Account(*(checked(column, value, f"{where}: {name}") for column, value, name in zip(columns, row, OF_ACCOUNTS))))
+    return found
+
+
+def read_branch(table: dict, folder: str) -> Branch:
+    """A branch of the file. Its accounts may be in a sheet."""
     where = f"branch {table.get('number', '')}".strip()
-    lists = dict.fromkeys(("numbers", "supervisors", "spare_drawers", "accounts"), list)
-    found = taken(table, where, {"number": int, "cash": int, "tellers": dict, **lists})
-    number, cash, tellers, numbers, supervisors, spare, accounts = found
+    in_sheet = isinstance(table.get("accounts"), str)
+    lists = dict.fromkeys(("numbers", "supervisors", "spare_drawers"), list)
+    kinds = {"number": int, "cash": int, "tellers": dict, **lists, "accounts": str if in_sheet else list, "office": dict}
+    number, cash, tellers, numbers, supervisors, spare, accounts, office = taken({"office": {}, **table}, where, kinds)
     known = read_numbers(numbers, where)
     return Branch(
         number=checked(KEY, number, where),
@@ -144,8 +199,37 @@ def read_branch(table: dict) -> Branch:
         supervisors=[read_badge(it) for it in supervisors],
         tellers={read_badge(badge): checked(KEY, drawer, f"{where}: drawer of {badge}") for badge, drawer in tellers.items()},
         spare_drawers=[checked(KEY, it, f"{where}: spare drawer") for it in spare],
-        accounts=read_accounts(accounts, known, where),
+        accounts=accounts_of_sheet(folder, accounts, known) if in_sheet else read_accounts(accounts, known, where),
+        office={read_badge(badge): checked(KEY, drawer, f"{where}: drawer of {badge}") for badge, drawer in office.items()},
     )
+
+
+def add_person(office: Office, where: str, fields: list[str]) -> None:
+    """Adds a person of a sheet. A teller, and the office's badge, have a branch and a drawer; a supervisor has a branch."""
+    badge, name, role, number, drawer = fields
+    read_badge(badge)
+    if role not in OFFICES:
+        raise Refused(f"{where}: role {role!r} is none of {', '.join(OFFICES)}")
+    if name:
+        office.names[badge] = checked(NAME, name, f"{where}: name (the office's sheet of users has names as they are written)")
+    if role in ("officer", "certifier"):
+        (office.officers if role == "officer" else office.certifiers).append(badge)
+        return
+    branch = next((it for it in office.branches if str(it.number) == number), None)
+    if branch is None:
+        raise Refused(f"{where}: there is no branch {number!r}")
+    if role == "supervisor":
+        branch.supervisors.append(badge)
+        return
+    (branch.tellers if role == "teller" else branch.office)[badge] = checked(KEY, drawer, f"{where}: drawer")
+
+
+def read_pairs(rows: Any) -> tuple[tuple[str, str], ...]:
+    """What must not meet in one hand."""
+    for it in rows:
+        if not isinstance(it, list) or len(it) != 2 or it[0] == it[1]:
+            raise Refused(f"apart: a pair is as ['post', 'release'], and not {it}")
+    return tuple((checked(PROCEDURE, one, "apart"), checked(PROCEDURE, other, "apart")) for one, other in rows)
 
 
 def require_distinct(found: Iterable, what: str) -> None:
@@ -171,6 +255,20 @@ def require_people(office: Office) -> None:
         raise Refused(f"{len(badges)} users, and at most {MOST_USER} may be")
 
 
+def require_apart(office: Office) -> None:
+    """Refuses what meets in one hand without a reason, a reason of nothing, and the office's badge in a person's hand."""
+    for branch in office.branches:
+        for badge in branch.office:
+            if any(badge in [*it.tellers, *it.supervisors] for it in office.branches):
+                raise Refused(f"badge {badge} is the office's, and nobody else's")
+    for name, reason in office.together.items():
+        if name not in (*ROLES, *office.has()) or not isinstance(reason, str) or not reason.strip():
+            raise Refused(f"together: {name} is a role or a badge, with a reason")
+    lacking = [it.removesuffix(": ") for it in office.exceptions() if it.endswith(": ")]
+    if lacking:
+        raise Refused(f"{'; '.join(lacking)}: what must not meet in one hand: take one away, or give the reason under [together]")
+
+
 def require_branches(office: Office) -> None:
     """Refuses branches that the lists would not allow, or that nothing could be done at."""
     branches = office.branches
@@ -187,25 +285,31 @@ def require_branches(office: Office) -> None:
             raise Refused(f"branch {it.number}: its counter's set has too many intervals: number its drawers in a row")
 
 
-def read_office(text: str) -> Office:
-    """The office that a file describes."""
+def read_office(text: str, folder: str = "") -> Office:
+    """The office that a file describes, with sheets in its folder."""
     try:
         table = tomllib.loads(text)
     except tomllib.TOMLDecodeError as why:
         raise Refused(str(why)) from why
-    lists, tables = dict.fromkeys(("officers", "certifiers", "branch"), list), dict.fromkeys(("names", *ROLES), dict)
-    found = taken({"names": {}, **table}, "the file", {**lists, "serves_all": bool, **tables})
-    officers, certifiers, branches, serves_all, names, *limits = found
+    lists, tables = dict.fromkeys(("officers", "certifiers", "branch", "apart"), list), dict.fromkeys(("names", "together", *ROLES), dict)
+    unsaid = {"names": {}, "together": {}, "office": {}, "people": "", "apart": [list(it) for it in APART]}
+    found = taken({**unsaid, **table}, "the file", {**lists, "serves_all": bool, "people": str, **tables})
+    officers, certifiers, branches, apart, serves_all, people, names, together, *limits = found
     office = Office(
         officers=[read_badge(it) for it in officers],
         certifiers=[read_badge(it) for it in certifiers],
         limits={role: read_limits(found, role) for role, found in zip(ROLES, limits)},
         serves_all=serves_all,
-        branches=[read_branch(it) for it in branches],
+        branches=[read_branch(it, folder) for it in branches],
         names=names,
+        apart=read_pairs(apart),
+        together=together,
     )
+    for where, fields in read_sheet(folder, people, OF_PEOPLE) if people else ():
+        add_person(office, where, fields)
     require_people(office)
     require_branches(office)
+    require_apart(office)
     return office
 
 

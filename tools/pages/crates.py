@@ -2,26 +2,33 @@
 without a clause in docs/PROVED.md with the sources, and prints the longest chain of crates.
 
     tools/pages/crates
+    tools/pages/crates --update     writes docs/EDGES.txt, and then looks
 
 Each crate of crates.txt but unit tests and benchmarks stands once in the drawing, and what it uses is in a line below, or before
 a `>` on its own. The first file of each crate begins with a head, which is its lines `//!`, of 40 to 80 words.
 
 A function has a clause where it has a `requires` or an `ensures`, or implements a method of a trait that has one. All others
 but those of tests and benchmarks are printed, and are those that the page lists by crate; so a new function
-without a clause is seen. A type's invariant is no clause.
+without a clause is seen. A type's invariant is no clause. docs/EDGES.txt has the sum of the text of each such function, of each
+that takes the machine, and of each of an impl for a socket (edges.py): a change of one is seen there.
+
+An impl of the repository's trait that leaves a ghost member at its default is in a second list of the page (defaults.py), as a
+clause by that member may say nothing of it. Each mutant that the page names in square brackets is there.
 
 tools/toolchain/crate_minutes.txt has the minutes of each crate but those, of the program, and of no other; tools/build says what
 each crate took. The longest chain of crates, each of which uses the one before it, is printed with its minutes: a build takes
 that long at least, however many processors there are.
 
-Each crate is a check.
+Each crate is a check, and so are the mutants of the page.
 """
 import glob
 import os
 import re
 
 from checks import Report, reader
-from repository import TOP, source_of, words_of_all
+from pages.defaults import defaults_of, left_at_defaults
+from pages.edges import against_edges, crates_in, edges_of, kept_lines, lines_of, write_edges
+from repository import TOP, source_of, dependencies
 from toolchain.chain import kept_minutes, longest_chain, proved_crates
 from toolchain.rattle_source import blanked, functions, homes_of, promised
 
@@ -31,6 +38,8 @@ CRATES = slice(10, 56)
 LEAST_IN_HEAD, MOST_IN_HEAD = 40, 80
 CLAIMS = os.path.join(TOP, "docs", "PROVED.md")
 CLAIMS_HEADING = "| Crate | Functions without a clause |"
+DEFAULTS_HEADING = "| Crate | Ghost members at their defaults |"
+MUTANTS = re.compile(r"\[([\w/-]+(?:[,;] [\w/-]+)*)\]$", re.MULTILINE)
 # Methods of the toolchain's traits that have clauses. That of `From` says what the impl does by its `from_gives`.
 PROMISED = {"Read::read", "Write::write", "Write::flush"}
 FROM = "From::from"
@@ -59,9 +68,9 @@ def drawn():
     return places, twice
 
 
-def listed_functions():
-    """The functions that the page lists as without a clause, of each crate."""
-    cells = [line.strip("| ").split(" | ") for line in rows_of(CLAIMS, CLAIMS_HEADING)]
+def listed(heading):
+    """What the page lists of each crate in the table that begins with this heading."""
+    cells = [line.strip("| ").split(" | ") for line in rows_of(CLAIMS, heading)]
     return {row[0]: re.findall(r"`([\w:]+)`", row[-1]) for row in cells}
 
 
@@ -87,11 +96,10 @@ def without_clause(texts, of_traits):
     return found
 
 
-def all_without_clause(crates):
-    """The functions of each of these crates that have no clause."""
-    texts = {it: texts_of(it) for it in crates}
+def all_without_clause(texts):
+    """The functions without a clause of each of these crates, by the texts of their files."""
     of_traits = PROMISED.union(*(promised(text) for of_crate in texts.values() for text in of_crate.values()))
-    return {it: without_clause(texts[it], of_traits) for it in crates}
+    return {it: without_clause(of_crate, of_traits) for it, of_crate in texts.items()}
 
 
 def words_of_head(crate):
@@ -128,6 +136,29 @@ def against_functions(found, listed):
     return wrong + [f"docs/PROVED.md lists {it}, which has a clause or is not there" for it in listed if it not in found]
 
 
+def against_defaults(found, kept):
+    """What is wrong with the ghost members at their defaults that the page lists of a crate."""
+    wrong = [f"{it} is left at its default, and docs/PROVED.md does not list it" for it in found if it not in kept]
+    return wrong + [f"docs/PROVED.md lists {it}, which is not left at its default" for it in kept if it not in found]
+
+
+def mutants_named(text):
+    """The mutants that a page names, each as CRATE/NAME, in square brackets at the end of a line."""
+    return [it for names in MUTANTS.findall(text) for it in re.split("[,;] ", names)]
+
+
+def is_mutant(name):
+    """Whether a name on the page is that of a mutant, or of a tool that tries mutants of its own."""
+    crate, _, mutant = name.partition("/")
+    paths = os.path.join("crates", crate, "must-fail", f"{mutant}.edit"), name
+    return any(os.path.isfile(os.path.join(TOP, it)) for it in paths)
+
+
+def against_mutants(named):
+    """What is wrong with the mutants that the page names."""
+    return [f"docs/PROVED.md names {it}, which is no mutant" for it in named if not is_mutant(it)]
+
+
 def against_minutes(crate, minutes, proved):
     """What is wrong with the minutes that are kept of a crate."""
     if (crate in minutes) == (crate in proved):
@@ -152,15 +183,27 @@ def say_chain(uses, minutes, crates):
 
 
 def main():
-    reader(__doc__, program=None, has_checks=False).parse_args()
-    uses, (places, twice), minutes = words_of_all(), drawn(), kept_minutes()
-    proved, listed = proved_crates(uses), listed_functions()
-    found = all_without_clause(proved)
+    arguments = reader(__doc__, program=None, has_checks=False)
+    arguments.add_argument("--update", action="store_true", help="write docs/EDGES.txt")
+    given = arguments.parse_args()
+    uses, (places, twice), minutes = dependencies(), drawn(), kept_minutes()
+    proved, functions_of, members_of = proved_crates(uses), listed(CLAIMS_HEADING), listed(DEFAULTS_HEADING)
+    texts = {it: texts_of(it) for it in proved}
+    defaults = {name: members for it in proved for name, members in defaults_of(texts[it]).items()}
+    found = all_without_clause(texts)
+    edges = {it: list(edges_of(texts[it], found[it])) for it in proved}
+    if given.update:
+        write_edges(lines_of(edges))
+    kept = crates_in(kept_lines())
     wrong = {it: against_drawing(it, places, twice, uses[it]) + against_head(it) for it in uses}
     for it in uses:
-        wrong[it] += against_functions(found.get(it, []), listed.get(it, [])) + against_minutes(it, minutes, proved)
-    others = {*places, *listed, *minutes} - {*uses}
+        wrong[it] += against_functions(found.get(it, []), functions_of.get(it, [])) + against_minutes(it, minutes, proved)
+        wrong[it] += against_edges(edges.get(it, []), kept.get(it, []))
+        wrong[it] += against_defaults(list(left_at_defaults(texts.get(it, {}), defaults)), members_of.get(it, []))
+    others = {*places, *functions_of, *members_of, *minutes, *kept} - {*uses}
     wrong.update((name, ["crates.txt has no such crate"]) for name in sorted(others))
+    with open(CLAIMS, encoding="utf-8") as page:
+        wrong["mutants of docs/PROVED.md"] = against_mutants(mutants_named(page.read()))
     say_functions(found)
     say_chain(uses, minutes, proved)
     return Report().add_all((crate, "\n    ".join(lines) or None) for crate, lines in wrong.items())

@@ -88,9 +88,16 @@ UNSAID = [
         ("/policy/grant", {**moments, "limit": 0, "procedure": "balance", "set": 2, "user": 9}, "first is not above last")
         for moments in ({"first": 701, "last": 700}, {"first": 99999999999, "last": 0})
     ),
+    *(
+        ("/policy/grant", {name: 0, "limit": 0, "procedure": "balance", "set": 2, "user": 9}, "It has first and last, or neither")
+        for name in ("first", "last")
+    ),
+    *(("/policy/define-set", {"members": [[kind, 101, 101]], "set": 6}, "Another kind is 422") for kind in (7, 999999999)),
     ("/policy/define-set", {"members": [[1, 102, 101]], "set": 6}, "low is not above high"),
     ("/policy/define-set", {"members": [[1, 101, 102], [2, 999999999, 1]], "set": 6}, "low is not above high"),
 ]
+# Bodies at an end of what the text alone allows.
+AT_AN_END = [("/policy/define-set", {"members": [[6, 999999999, 999999999]], "set": 6})]
 # What the file says of every request, as text; the requests that show it are among those below.
 SAID_OF_ALL = [
     "A whole number is written in digits alone",
@@ -292,8 +299,9 @@ class Path:
 
     def unsaid(self):
         """What a schema can't say."""
-        own = [(body, words) for path, body, words in UNSAID if path == self.path]
-        return [self.asked(f"{words}: {text_of(body)}", self.fault_of_bad, body=text_of(body).encode()) for body, words in own]
+        own = [(body, words, self.fault_of_bad) for path, body, words in UNSAID if path == self.path]
+        own += [(body, "at an end", self.fault_of_good) for path, body in AT_AN_END if path == self.path]
+        return [self.asked(f"{words}: {text_of(body)}", fault, body=text_of(body).encode()) for body, words, fault in own]
 
     def groups(self):
         """The requests by which the path is tried, those of a list in one stream."""

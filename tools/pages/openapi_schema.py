@@ -1,15 +1,16 @@
 """What docs/openapi.json says of values: whether it allows one, and values at the ends of what it allows and one past them.
 
-Only some keys of schemas are read. `fault_of_schema` reports a schema that has others, or that leaves an end open.
+Only some keys of schemas are read, of those that OpenAPI 3.0 has, as generators of today take it. `fault_of_schema` reports a schema
+that has others, or that leaves an end open. Members of an object that may be left out are there together or not at all, which 3.0 has
+no word for.
 """
 import json
 import re
 
 JSON = "application/json"
 # The keys of schemas that are read here. The first say what a value is, the last explain.
-READ = {"type", "minimum", "maximum", "minLength", "maxLength", "pattern", "enum", "const", "required", "properties"}
-READ |= {"additionalProperties", "dependentRequired", "items", "prefixItems", "minItems", "maxItems", "oneOf", "discriminator"}
-READ |= {"description", "examples"}
+READ = {"type", "minimum", "maximum", "minLength", "maxLength", "pattern", "enum", "required", "properties"}
+READ |= {"additionalProperties", "items", "minItems", "maxItems", "oneOf", "discriminator", "description", "example"}
 # A text whose letters are all between two.
 BETWEEN = re.compile(r"\^\[(.)-(.)\]\*\$")
 TYPES = {"integer": int, "string": str, "boolean": bool, "object": dict, "array": list}
@@ -85,10 +86,11 @@ def fault_of_schema(document, schema):
         return f"a pattern that is not read: {schema['pattern']}"
     if kind == "object" and schema.get("additionalProperties", True):
         return "an object whose members are not exactly those that it names"
-    if kind == "object" and not are_together(schema):
-        return "members that may be left out, and not only all of them together"
-    bad = [it for it in schema.get("examples", []) if not admits(document, schema, it)]
-    return f"an example that it doesn't allow: {text_of(bad[0])}" if bad else None
+    if kind == "object" and left_out(schema) and "or neither" not in schema.get("description", ""):
+        return "members that may be left out, and no word that they are there together"
+    if "example" in schema and not admits(document, schema, schema["example"]):
+        return f"an example that it doesn't allow: {text_of(schema['example'])}"
+    return None
 
 
 def left_out(schema):
@@ -96,16 +98,9 @@ def left_out(schema):
     return set(schema["properties"]) - set(schema["required"])
 
 
-def are_together(schema):
-    """Whether the members of an object that may be left out are there together or not at all."""
-    names, needed = left_out(schema), schema.get("dependentRequired", {})
-    return set(needed) == names and all({*needed[it], it} == names for it in names)
-
-
 def admits_names(schema, names):
     """Whether a schema of objects allows members of these names."""
-    needed = [it for name in names for it in schema.get("dependentRequired", {}).get(name, [])]
-    return {*schema["required"], *needed} <= set(names) <= set(schema["properties"])
+    return names - left_out(schema) == set(schema["required"]) and names & left_out(schema) in (set(), left_out(schema))
 
 
 def admits_text(schema, value):
@@ -122,10 +117,7 @@ def letters_of(schema):
 
 def admits_list(document, schema, value):
     """Whether a schema of lists allows one."""
-    first, rest = schema.get("prefixItems", []), schema.get("items", {})
-    ends = schema["minItems"] <= len(value) <= schema["maxItems"]
-    fits = all(admits(document, it, item) for it, item in zip(first, value))
-    return ends and fits and all(rest is not False and admits(document, rest, item) for item in value[len(first) :])
+    return schema["minItems"] <= len(value) <= schema["maxItems"] and all(admits(document, schema["items"], it) for it in value)
 
 
 def is_of_type(kind, value):
@@ -139,7 +131,7 @@ def admits(document, schema, value):
     if "oneOf" in schema:
         return sum(admits(document, it, value) for it in schema["oneOf"]) == 1
     kind = schema["type"]
-    if not is_of_type(kind, value) or value not in schema.get("enum", [schema.get("const", value)]):
+    if not is_of_type(kind, value) or value not in schema.get("enum", [value]):
         return False
     if kind == "integer" and "minimum" in schema:
         return schema["minimum"] <= value <= schema["maximum"]
@@ -188,7 +180,7 @@ def numbers(schema):
 def texts(schema):
     """A text at both ends of its length and of its letters, and past them; or each of a choice, and others."""
     others = all_bad([Raw(it) for it in ("null", "0", "true", "[]")])
-    choice = schema.get("enum", [schema["const"]] if "const" in schema else None)
+    choice = schema.get("enum")
     if choice:
         first = choice[0]
         return all_good(choice) + all_bad(["", "x", first.upper(), first + " ", first[:-1]]) + others
@@ -199,17 +191,13 @@ def texts(schema):
     return all_good(good) + all_bad(past) + others
 
 
-def with_item(example, place, value):
-    """A list with another item in a place."""
-    return [*example[:place], value, *example[place + 1 :]]
-
-
 def lists(document, schema, example):
-    """A list at both ends of its length, and past them, and with items varied: the first, or each of those that are named."""
-    named = schema.get("prefixItems")
-    for place, it in enumerate(named or [schema["items"]]):
-        for variant in variants(document, it, example[place]):
-            yield variant.within(f"item {place + 1}", lambda value, at=place: with_item(example, at, value))
+    """A list at both ends of its length, and past them, and with items varied: the last, and the others past what the file allows, as
+    what a place of its own allows is said in its description."""
+    for place, it in enumerate(example):
+        for variant in variants(document, schema["items"], it):
+            if place + 1 == len(example) or not variant.is_good:
+                yield variant.within(f"item {place + 1}", lambda value, at=place: [*example[:at], value, *example[at + 1 :]])
     least, most = schema["minItems"], schema["maxItems"]
     for length in (least, most, least - 1, most + 1):
         yield Variant(f"{length} items", (example * (most + 1))[:length], least <= length <= most)
@@ -221,7 +209,7 @@ def objects(document, schema, example):
     names = left_out(schema)
     if names:
         yield Variant(f"{', '.join(sorted(names))} left out", {it: example[it] for it in schema["required"]}, True)
-        example = schema["examples"][0]
+        example = schema["example"]
     for name, it in schema["properties"].items():
         for variant in variants(document, it, example[name]):
             yield variant.within(name, lambda value, at=name: {**example, at: value})
@@ -235,7 +223,7 @@ def objects(document, schema, example):
 def choices(document, schema, example):
     """An object that is one of several by its `procedure`: the example of each, and that varied; and one that is none."""
     for it in map(document.at, schema["oneOf"]):
-        own = it["examples"][0]
+        own = it["example"]
         yield Variant(f"as {own['procedure']}", own, True)
         # (a procedure in place of another is tried once, below)
         yield from (found for found in objects(document, it, own) if not found.what.startswith("procedure: "))

@@ -32,7 +32,7 @@ CRATES = {
     "close-day": "drawers",
     "new-account": "bank_meaning",
 }
-READ = ("crates", "tools", "branch", "sample", "desk")
+READ = ("crates", "tools", "branch", "sample", "desk", "office")
 FOLDERS = ("src", "specs", "proofs", "must-fail")
 PATH = re.compile(r"[\w-]+(?:/[\w-]+)*(?:\.\w+|/\*)")
 LEFT_OUT = ("lib.rt", "Lib.antt", "operation.py")

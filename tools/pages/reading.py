@@ -38,8 +38,8 @@ SUMS = os.path.join(TOP, "docs", "DEFINITIONS.txt")
 CALLS = [os.path.join(TOP, "crates", *it) for it in (
     ("bank_cli", "src", "act.rt"),
     ("cli_file", "src", "checking.rt"),
-    ("cli_init", "src", "init.rt"),
-    ("cli_upgrade", "src", "upgrading.rt"),
+    ("cli_make", "src", "init.rt"),
+    ("cli_make", "src", "upgrading.rt"),
     ("cli_serve", "src", "actions.rt"),
     ("cli_counter", "src", "actions.rt"),
     ("counter_api", "src", "service.rt"),
@@ -159,20 +159,24 @@ def sum_of(lines, words):
     return hashlib.sha256("\n".join([text, *meant]).encode()).hexdigest()[:10]
 
 
-def questions():
-    """The question that docs/AUDIT.md has for each definition."""
-    found = {}
+def asked_lines():
+    """Each question that docs/AUDIT.md has, with the crate, file and name of whom it is asked, each of which may have a `*`."""
     for line in text_of(AUDIT).split("\n"):
         cells = [cell.strip() for cell in line.strip().strip("|").split(" | ")]
-        home = re.fullmatch(r"(\w+)/specs/(\w+\.antt(?:, \w+\.antt)*)", cells[1]) if line.startswith("| `") and len(cells) == 3 else None
+        home = re.fullmatch(r"(\w+)/specs/([\w*]+\.antt(?:, [\w*]+\.antt)*)", cells[1]) if line.startswith("| `") and len(cells) == 3 else None
         for module in home[2].replace(".antt", "").split(", ") if home else []:
-            found.update({(home[1], module, name): cells[2] for name in re.findall(r"`([^`]+)`", cells[0])})
-    return found
+            yield from (((home[1], module, name), cells[2]) for name in re.findall(r"`([^`]+)`", cells[0]))
+
+
+def questions(texts):
+    """The question for each definition: that of its own name, or else of a `*`."""
+    asked = sorted(asked_lines(), key=lambda line: "*" not in "".join(line[0]))
+    return {key: question for pattern, question in asked for key in texts if all(map(fnmatch.fnmatchcase, key, pattern))}
 
 
 def sum_lines(texts, words, found):
     """Each line of the file of sums: the files, and after each its definitions, as they stand there."""
-    asked, home = questions(), None
+    asked, home = questions(texts), None
     yield "The definitions that docs/PROVED.md rests on, file by file: the sum of each, its name, and what docs/AUDIT.md asks of it."
     yield "tools/pages/reading --update writes this. Of one whose sum changes ask, too: does it still say what its comment says?"
     for key in (key for key in texts if key in found):

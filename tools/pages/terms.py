@@ -1,4 +1,5 @@
-"""Refuses retired terms in the pages, and in comments of the crates, the tools, the front, the teller's page and of cases.
+"""Refuses retired terms in the pages, and in comments of the crates, the tools, the front, the teller's page and of cases; and retired
+words in the names of the crates: of functions, types, clauses, files and mutants.
 
     tools/pages/terms
 
@@ -42,13 +43,30 @@ RETIRED = (
     (r"stands? for", "represents", None),
     (r"(the|a|his|their|by|without|another) leave", "authorization", None),
 )
+# Parts of no name, and what is said instead.
+RETIRED_IN_NAMES = {
+    "told": "stated, reported, read",
+    "behind": "after, following",
+    "hear": "read, drain",
+    "heard": "read",
+    "had": "taken",
+}
+# Names of the toolchain's own: a lemma, and what the pattern before an arm says of its value (`told-members`).
+KITS_NAMES = {"contains_had"}
+KITS_FACT = re.compile(r"\btold-\w+")
 PATTERNS = [
     (re.compile(rf"(?<![\w`'/.-])(?:{it})(?![\w`-]|\.\w)", re.IGNORECASE), say, others and re.compile(others, re.IGNORECASE))
     for it, say, others in RETIRED
 ]
+OF_CRATES = (".rt", ".antt", ".edit")
 FENCED = re.compile(r"^```.*?^```", re.MULTILINE | re.DOTALL)
 QUOTED = re.compile(r"`[^`\n]*`|\b[a-z_]+/[\w/.]+(?:, [A-Z]\w+)*")
 COMMENT = re.compile(r"^\s*(?://[/!]?|--) ?(.*)$")
+# What is no code in a line of a crate, and the marks of a mutant's lines of code.
+NO_CODE = re.compile(r'"(?:[^"\\]|\\.)*"|//.*|(?:^|(?<=\s))--.*')
+OF_MUTANT = re.compile(r"^(old|new|refused (at|by)): ")
+NAME = re.compile(r"[A-Za-z_][A-Za-z0-9_]*")
+WORD = re.compile(r"[A-Z]?[a-z]+|[A-Z]+(?![a-z])")
 
 
 def faults_of(text):
@@ -98,6 +116,22 @@ def lines_of(path, text):
     return lines_of_python(text) if is_python else lines_marked(text, "#")
 
 
+def code_of(path, text):
+    """The lines of code of a crate's file."""
+    for number, line in enumerate(text.split("\n"), 1):
+        if not path.endswith(".edit") or OF_MUTANT.match(line):
+            yield number, KITS_FACT.sub("", NO_CODE.sub("", line))
+
+
+def faults_of_names(path, text):
+    """The names in a crate's file, and its own, that have a retired word, each with its line and what to say instead."""
+    for number, line in [(0, path), *code_of(path, text)]:
+        for name in NAME.findall(line):
+            for word in WORD.findall(name):
+                if word.lower() in RETIRED_IN_NAMES and name not in KITS_NAMES:
+                    yield number, name, RETIRED_IN_NAMES[word.lower()]
+
+
 def below(pattern):
     """The paths in the repository that a pattern matches."""
     return sorted(os.path.relpath(it, TOP) for it in glob.glob(os.path.join(TOP, pattern), recursive=True))
@@ -108,14 +142,17 @@ def files():
     found = ["README.md", "CHANGELOG.md", "CONTRIBUTING.md", *below("docs/*.md")]
     for it in ("tools", "branch", "desk", "office", "rows", "migrations", ".ci"):
         found += below(f"{it}/**/*")
-    found += below("crates/*/**/*.rt") + below("crates/*/**/*.antt")
-    return [it for it in found if os.path.isfile(os.path.join(TOP, it)) and not it.endswith((".txt", ".csv", ".png"))]
+    found += [path for it in OF_CRATES for path in below(f"crates/*/**/*{it}")]
+    return [it for it in found if os.path.isfile(os.path.join(TOP, it)) and not it.endswith((".txt", ".csv", ".png", ".gz"))]
 
 
 def faults_of_file(path):
     """The retired terms in a file, as text, or none."""
     with open(os.path.join(TOP, path), encoding="utf-8") as file:
-        found = faults_of(lines_of(path, file.read()))
+        text = file.read()
+        found = [] if path.endswith(".edit") else [*faults_of(lines_of(path, text))]
+        if path.endswith(OF_CRATES):
+            found += faults_of_names(path, text)
         return "\n    ".join(f"{path}:{number}: {term}: say {say}" for number, term, say in found) or None
 
 

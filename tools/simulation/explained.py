@@ -79,7 +79,7 @@ def distinct(states: list[State]) -> list[State]:
 
 
 def with_beginning(states: list[State], messages: list[Message], rest: bytes, moment: int) -> list[State]:
-    """The states in which a beginning of these messages, which got no reply, is carried out; the first may have had a
+    """The states in which a beginning of these messages, which got no reply, is carried out; the first may have got a
     beginning of its reply."""
     found = list(states)
     for message in messages:
@@ -230,6 +230,6 @@ def explained_any(states: list[State], talks: Sequence[Talk], moment: int, allow
     search = Search(talks, moment, allowed, found)
     end = search.after(states, [0] * len(talks))
     if end is None:
-        what = "was found within so many steps that" if search.steps > MOST_STEPS else "of them"
+        what = "was found within the steps allowed that" if search.steps > MOST_STEPS else "of them"
         raise Wrong(f"no order of {len(talks)} connections {what} explains their replies and the file: {search.wrong}")
     return [end]

@@ -1,5 +1,12 @@
 """What fails in a part of a day, as it is drawn, and what must hold then: the program is killed, power is lost, calls
-to the disk fail, memory is refused."""
+to the disk fail, memory is refused.
+
+The program is killed at a call, after half of it or after it, at the start, too, or while idle. The power may fail with
+it: of what was not synced file and log hold all, the last write, or some. Reads, writes and syncs fail; the disk has no
+room, or takes half a write. Beside that clients are slow, cut, reset or silent, a dozen at once, leave replies unread or
+send no heads; the clock goes back, a backup is restored, a year is closed, or killed at that; lists, files and arguments
+are refused; and one bit of the file turns, which `check` has to report if pages end in sums.
+"""
 import errno
 from random import Random
 from typing import TYPE_CHECKING, NamedTuple

@@ -12,7 +12,7 @@ if TYPE_CHECKING:
 
 SECONDS = 120
 CARRIED, NOT_EMPTY = (0, b"carried forward\n", b""), (3, b"", b"file: not empty\n")
-# So often the new file has sums, and the program is killed as it makes it, after so many calls at most.
+# How often the new file has sums, how often the program is killed as it makes it, and after how many calls at most.
 SUMS, KILLED, MOST_CALLS = 0.7, 0.5, 60
 
 
@@ -38,7 +38,7 @@ def opened_anew(bank: LongBank) -> LongBank:
     return made
 
 
-def words_of_forward(life: "Life", new: str) -> list[str]:
+def forward_arguments(life: "Life", new: str) -> list[str]:
     """The arguments that close the year, some of which ask for sums of pages."""
     sums = ["--sums"] if "sums" in life.has and life.rng.random() < SUMS else []
     return ["forward", life.file, new, *sums]
@@ -72,7 +72,7 @@ def forward(life: "Life") -> None:
     """Closes the year, where all is closed; else that is refused."""
     life.fault = "the closing of a year"
     new = os.path.join(life.room, "next")
-    words = words_of_forward(life, new)
+    words = forward_arguments(life, new)
     if open_branches(life.bank):
         line = b"year: not closed, branch %d\n" % open_branches(life.bank)[0]
         life.require_ended(words, (1, line, b""))

@@ -25,7 +25,7 @@ Item = tuple[str, int] | None
 Agenda = list[Item]
 
 SECONDS = 120
-# So many messages are sent at a time on one connection, at most; and so many connections are made at once.
+# How many messages are sent at a time on one connection; and how many connections are made at once.
 AT_A_TIME = (1, 1, 1, 2, 3, 5, 8)
 A_DOZEN = 12
 # So often a round is one of many connections, of another manner, or has a client that lets a reply be lost.

@@ -21,7 +21,7 @@ struct block {
     long memory_count;   /* how many are */
     long memory_fired;   /* how many were */
     long drops_syncs;    /* whether a sync does nothing */
-    long waits_part;     /* a wait for a client is so many times shorter */
+    long waits_part;     /* by how many times a wait for a client is shorter */
     long disk_calls;     /* how many calls to the disk were made */
     long memory_calls;   /* how many calls for memory were made */
     long clock_reads;    /* how often the clock was read */

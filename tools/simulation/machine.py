@@ -58,11 +58,11 @@ class Machine:
         return int(struct.unpack_from("q", self.block, 8 * NUMBERS.index(name))[0])
 
     def arm_disk(self, after: int, way: int, kinds: int, error: int = 0) -> None:
-        """Has a call to the disk not be made as it is asked for, so many from now."""
+        """Has a call to the disk not be made as it is asked for, `after` calls from now."""
         self.set(disk_way=way, disk_kinds=kinds, disk_error=error, disk_fired=0, disk_after=after)
 
     def arm_memory(self, after: int, count: int) -> None:
-        """Has calls for memory refused, the first so many from now."""
+        """Has `count` calls for memory refused, the first of them `after` calls from now."""
         self.set(memory_count=count, memory_fired=0, memory_after=after)
 
     def disarm(self) -> None:

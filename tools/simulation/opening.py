@@ -29,7 +29,7 @@ NAMES = (
     *("Gus", "Hal", "Ida", "Jo", "Kit", "Lee", "Mia"),
 )
 BADGE_BYTES = "".join(chr(it) for it in range(0x21, 0x7F))
-# Within so many days triples begin or end.
+# Within how many days triples begin or end.
 MOMENTS_WITHIN = 30
 # So often an amount or a number that is drawn is one at an end of its range.
 AT_AN_END = 0.15

@@ -4,7 +4,7 @@ import socket
 import threading
 import time
 
-from serving import HOST, free_port
+from serving import HOST
 
 SECONDS = 120
 PIECE = 1 << 16
@@ -27,8 +27,8 @@ class Crossing:
 
     def __init__(self, port: int) -> None:
         self.served = port
-        self.port = free_port()
-        self.listener = socket.create_server((HOST, self.port))
+        self.listener = socket.create_server((HOST, 0))
+        self.port = self.listener.getsockname()[1]
         self.lock = threading.Lock()
         self.open: list[Passed] = []
         threading.Thread(target=self.accept, daemon=True).start()

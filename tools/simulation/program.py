@@ -66,7 +66,7 @@ class Talk:
         return list(zip(self.messages, [*self.replies, *[None] * (len(self.messages) - len(self.replies))]))
 
 
-def words_of_badges(file: str, badges: str) -> list[str]:
+def badges_arguments(file: str, badges: str) -> list[str]:
     """The arguments that name a bank and its badges."""
     return [file, "--badges", badges]
 
@@ -172,7 +172,7 @@ class ByServe(Running):
         def start(port: int) -> subprocess.Popen[bytes]:
             self.port = port
             word, *more = self.arguments(requests)
-            Running.__init__(self, machine, [program, word, *words_of_badges(file, badges), *more], file, is_traced)
+            Running.__init__(self, machine, [program, word, *badges_arguments(file, badges), *more], file, is_traced)
             return self.run
 
         self.proxy: Crossing | None = None
@@ -211,13 +211,13 @@ class ByServe(Running):
                     self.outwait(client, talk)
                 hear(client, talk, False)
         for client, talk in zip(clients, talks):
-            self.hear_out(client, talk, keeps)
+            self.drain(client, talk, keeps)
         self.machine.set(waits_part=1)
 
     def outwait(self, client: socket.socket, talk: Talk) -> None:
         """Has the time pass that a silent client is given: its waits are shorter already."""
 
-    def hear_out(self, client: socket.socket | None, talk: Talk, keeps: bool) -> None:
+    def drain(self, client: socket.socket | None, talk: Talk, keeps: bool) -> None:
         """Takes what a client gets, and ends its connection or keeps it."""
         if client is None:
             return
@@ -304,7 +304,7 @@ class ByRun(Running):
         requests: int = MOST_REQUESTS,
     ) -> None:
         self.moment = moment
-        super().__init__(machine, [program, "run", *words_of_badges(file, badges), "--moment", str(moment)], file, is_traced)
+        super().__init__(machine, [program, "run", *badges_arguments(file, badges), "--moment", str(moment)], file, is_traced)
 
     def converse(self, talks: Sequence[Talk], keeps: bool = False) -> None:
         """Has one client talk after the other."""

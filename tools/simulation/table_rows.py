@@ -112,7 +112,7 @@ def account_row(bank: Bank, account: int) -> Row:
     return (account, home, opening, floor, bank.balance(account), bank.turn_count(account))
 
 
-# For so many nanoseconds the time of a file's last change may stay the same over further changes.
+# For how many nanoseconds the time of a file's last change may stay the same over further changes.
 TICK = 20_000_000
 
 

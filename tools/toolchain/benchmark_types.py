@@ -11,7 +11,7 @@ import os
 import tempfile
 
 from checks import Report, reader
-from repository import BENCHES, kit, words_of_all, words_of_check
+from repository import BENCHES, kit, dependencies, check_arguments
 from toolchain.program import fault_of, layout_of
 
 # The crate that has them as libraries.
@@ -20,7 +20,7 @@ READER = "reads_benches"
 
 def against_source(libraries):
     """What the compiler says against the sources of all of them."""
-    reads = words_of_check({**words_of_all(), READER: [*BENCHES]}, READER, "src/lib.rt", libraries, kit())
+    reads = check_arguments({**dependencies(), READER: [*BENCHES]}, READER, "src/lib.rt", libraries, kit())
     with tempfile.TemporaryDirectory(prefix="benches-") as room:
         os.mkdir(os.path.join(room, "src"))
         with open(os.path.join(room, "src", "lib.rt"), "w", encoding="utf-8") as file:
@@ -29,10 +29,10 @@ def against_source(libraries):
 
 
 def main():
-    words = reader(__doc__, program=None, has_checks=False)
+    arguments = reader(__doc__, program=None, has_checks=False)
     said = "a copy of the repository whose crates are proved"
-    words.add_argument("--libraries", metavar="FOLDER", type=os.path.abspath, required=True, help=said)
-    given = words.parse_args()
+    arguments.add_argument("--libraries", metavar="FOLDER", type=os.path.abspath, required=True, help=said)
+    given = arguments.parse_args()
     parts = [(f"{it}: its layout", fault_of(layout_of(it))) for it in BENCHES]
     parts.append((f"{', '.join(BENCHES)}: their sources", against_source(given.libraries)))
     return Report(len(parts)).add_all(parts)

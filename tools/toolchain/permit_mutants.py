@@ -15,7 +15,7 @@ import tempfile
 from functools import partial
 
 from checks import Check, Wrong, reader, run_checks
-from repository import TOP, below, kit, words_of_all, words_of_check
+from repository import TOP, below, kit, dependencies, check_arguments
 from toolchain.program import output_of
 
 # The crate, and what it uses.
@@ -141,7 +141,7 @@ MISTAKES = [
 
 def words_from_sources():
     """The arguments that have the compiler read the crate over the sources of the repository's crates."""
-    uses, home = words_of_all(), kit()
+    uses, home = dependencies(), kit()
     ours = below(uses, USED)
     of_kit = {it for name in ours for it in uses[name]} - {*ours} | {"core", "std"}
     made = ["--crate-name", NAME, "src/lib.rt", "-L", f"dependency={home}/rlibs"]
@@ -154,10 +154,10 @@ def words_from_sources():
     return [*made, "--antt-project", f"{home}/rattle/logic/antt-project.json", "--logic-built", f"{home}/logic_built"]
 
 
-def words_of_reading(libraries):
+def reading_arguments(libraries):
     """The arguments that have the compiler read the crate, over libraries or over sources, and prove nothing."""
     if libraries:
-        made = words_of_check({**words_of_all(), NAME: [*USED]}, NAME, "src/lib.rt", os.path.abspath(libraries), kit())
+        made = check_arguments({**dependencies(), NAME: [*USED]}, NAME, "src/lib.rt", os.path.abspath(libraries), kit())
     else:
         made = words_from_sources()
     return ["rattle", "check", *made, "--jobs", "1", "--only", ""]
@@ -185,10 +185,10 @@ def judge(command, error, text):
 
 
 def main():
-    words = reader(__doc__, program=None)
-    words.add_argument("--libraries", metavar="FOLDER", help="a copy of the repository whose crates are proved")
-    given = words.parse_args()
-    command = words_of_reading(given.libraries)
+    arguments = reader(__doc__, program=None)
+    arguments.add_argument("--libraries", metavar="FOLDER", help="a copy of the repository whose crates are proved")
+    given = arguments.parse_args()
+    command = reading_arguments(given.libraries)
 
     def checks_of(_):
         yield Check("a permit is spent once", partial(judge, command, None, TEXT))

@@ -3,7 +3,7 @@ import glob
 import os
 import subprocess
 
-from repository import TOP, kit, words_of_all, words_of_check
+from repository import TOP, kit, dependencies, check_arguments
 
 # For the last lines of a command that ends badly.
 MOST_LINES = 40
@@ -34,7 +34,7 @@ def steps(name, folder, libraries, backend, room, jobs=1):
     step's name, and its command, which is run in the folder. The program is `out/NAME` there. FOLDER/crates/NAME of the libraries
     has each crate below it, built. The room is a folder for what lies between."""
     home, made = kit(), os.path.join(room, "made.o")
-    words = [*words_of_check(words_of_all(), name, "src/main.rt", libraries, home), "--jobs", str(jobs)]
+    words = [*check_arguments(dependencies(), name, "src/main.rt", libraries, home), "--jobs", str(jobs)]
     toolchain = ["--toolchain", f"{home}/toolchain"]
     foreign = [f"{home}/c/libos_c.a", f"{home}/c/liblibc_c.a"]
     os.makedirs(os.path.join(folder, "out"), exist_ok=True)

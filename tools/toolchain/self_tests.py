@@ -1,9 +1,13 @@
 """Tries the reader of cases (tools/cases/suite.py) and their runs (tools/cases/run) over cases of its own; which checks have a
-second try (tools/checks.py); the minutes of a build (tools/toolchain/chain.py) over crates of its own; which functions have a
-clause (tools/toolchain/rattle_source.py, tools/pages/crates); that only tools/try and tools/benchmarks/unproved make an
-unproved program, tools/try of these sources; which changes of a definition are seen (tools/pages/reading); whether the model over
-kept sums (tools/simulation/ledger.py) answers as the one that adds up; what tools/benchmarks/instructions says of two tables; and
-whether tools/toolchain/mutants tries again what a change concerns (tools/toolchain/kept_trials.py).
+second try (tools/checks.py, tools/days.py), and that tools/run has all that tools/test runs; the minutes of a build
+(tools/toolchain/chain.py) over crates of its own, and the seconds of a check (tools/toolchain/where_time.py); which functions have
+a clause (tools/toolchain/rattle_source.py, tools/pages/crates); that only tools/try, tools/test --quick, tools/benchmarks/unproved
+and tools/toolchain/families make an unproved program; which changes of a definition are seen (tools/pages/reading); whether the
+model over kept sums (tools/simulation/ledger.py) answers as the one that adds up; what tools/benchmarks/instructions says of two
+tables; what is done at a port that is taken (tools/serving.py); what tools/toolchain/families says of outcomes, and how a program can
+be two mutants (tools/toolchain/switches.py); whether tools/toolchain/mutants tries again what a change concerns
+(tools/toolchain/kept_trials.py); that each path which a tool names is there (tools/toolchain/named_paths.py); and that a retired word
+in a name of a crate is seen (tools/pages/terms).
 
     tools/toolchain/self-tests
 
@@ -16,28 +20,37 @@ import glob
 import importlib.machinery
 import importlib.util
 import io
+import json
 import os
 import random
 import re
+import socket
 import sys
 import tempfile
 from functools import partial
 from unittest import mock
 
+import serving
 from benchmarks import counting, instructions
 from cases import run as CASES
 from cases.suite import BadRow, Suite, bytes_of_lines, reply, request, spelled
 from checks import Check, Late, Report, Wrong, reader, require, require_nothing, run_checks
+from days import Days, up_to_last
 from first_look import compiling
-from model.bank import Bank
-from pages import crates as CRATES, reading as READING
-from repository import BANK_PROGRAM, TOP, below, words_of_all
+from model.bank import PROCEDURES, Bank
+from opening_lists import columns
+from pages import crates as CRATES, reading as READING, terms as TERMS
+from repository import BANK_PROGRAM, TOP, below, dependencies
 from simulation.drawing import Drawing
+from simulation.ledger import MEMBERS
 from simulation.opening import FIRST_MOMENT, opening_of
 from simulation.table_rows import rows_of_bank
-from toolchain import kept_trials
+from toolchain import kept_trials, named_paths
 from toolchain.chain import ends, longest_chain, minutes_left, minutes_of
+from toolchain.families import lines_of
 from toolchain.rattle_source import promised
+from toolchain.switches import Mutant, place_of, switched
+from toolchain.where_time import Spent, spent
 
 
 def tool(name):
@@ -48,7 +61,7 @@ def tool(name):
     return module
 
 
-MUTANTS = tool("toolchain/mutants")
+MUTANTS, ALL, RUN = tool("toolchain/mutants"), tool("test"), tool("run")
 ECHO = r"run -c import\ssys;sys.stdout.write(sys.stdin.read())"
 QUIET = 'run -c ""'
 LISTS = r"""
@@ -115,6 +128,14 @@ BUILDS = [
     # At half the pace, of which the two minutes that are added leave 8 minutes for 5; and what was kept sets no pace.
     (minutes_left(USES, MINUTES, {"low": 2.0, "mid": 4.0}, {}, 2), 8.0),
     (minutes_left(USES, MINUTES, {"low": None, "mid": None}, {}, 2), 5.0),
+]
+
+# What a check writes, with the seconds till then, and what is said of it; of one that ends with no function, too.
+CHECKED = [(2.0, "logic"), (9.0, "checked b, 1 of 4"), (9.5, "note: a"), (12.0, "checked a, 2 of 4"), (12.5, "checked d, 3 of 4")]
+TIMES = [
+    (spent([*CHECKED, (14.0, "checked c, 4 of 4")], 20.0), Spent(9.0, 6.0, {"a": 3.0, "d": 0.5, "c": 1.5})),
+    (spent([*CHECKED, (14.0, "checked a, 4 of 4")], 20.0).functions["a"], 4.5),
+    (spent(CHECKED[:1], 3.0), Spent(3.0, 0.0, {})),
 ]
 
 # A table of instructions; others, of which it is the one before; and what is said of both.
@@ -197,6 +218,11 @@ CLAUSES = [
         CRATES.against_functions(["a::old"], ["a::old", "a::gone"]),
         ["docs/PROVED.md lists a::gone, which has a clause or is not there"],
     ),
+    (CRATES.mutants_named("- `a` [decide/gone, b/c; d/e]\n- `f[0]`, [g] and on"), ["decide/gone", "b/c", "d/e"]),
+    (
+        CRATES.against_mutants(["decide/gone", "decide/repeat_acts_again", "tools/toolchain/permit-mutants"]),
+        ["docs/PROVED.md names decide/gone, which is no mutant"],
+    ),
 ]
 
 # The sum of a definition: of another text or of an import from elsewhere it is another, of another layout the same.
@@ -229,7 +255,8 @@ SUMS = [
 
 # The files that name the folder of the unproved program, or the modules that make it.
 UNPROVED = re.compile(r"first[-_]look")
-MAY_NAME_IT = {"tools/try", "tools/first_look/compiling.py", "tools/benchmarks/unproved.py", "tools/toolchain/self_tests.py"}
+MAY_NAME_IT = {"tools/try", "tools/test", "tools/first_look/compiling.py", "tools/benchmarks/unproved.py", "tools/toolchain/families.py",
+               "tools/toolchain/switched_tests.py", "tools/toolchain/self_tests.py"}
 
 
 def naming_unproved():
@@ -244,7 +271,27 @@ def naming_unproved():
     return found
 
 
-SAID = [(naming_unproved(), MAY_NAME_IT)]
+# What families saw of four mutants, and the table of that.
+OUTCOMES = {
+    "cases": {"a": True, "b": False, "c": False, "d": False}, "kills": {"a": True, "b": True},
+    "test_x": {"a": False, "b": False, "c": False, "d": False}, "test_y": {"a": True, "b": False, "c": True, "d": False},
+}  # fmt: skip
+TABLE_OF_OUTCOMES = "\n".join(lines_of(OUTCOMES, ["test_x", "test_y"])).replace("\n    ", " ").split("\n")[1:]
+LINES_OF_OUTCOMES = ["cases 4 1 0", "kills 2 2 1 b", "units 4 2 1 c", "test_x 4 0 0", "test_y 4 2 1 c", "seen by none: 1 d, tried with 2"]
+# A function that can be two mutants, and a mutant of no function alone.
+BODIES = "fn one() -> u8 { 1 }\nfn two() -> u8 { 2 }\n"
+TWO = [Mutant("c", "m", "src/lib.rt", ((old, new),)) for old, new in (("{ 1 }", "{ 3 }"), ("1", "4"))]
+SWITCHES = "{ if mutant_switch::is_on(b'0', b'0', b'1') { 3 } else if mutant_switch::is_on(b'0', b'1', b'0') { 4 } else { 1 } }"
+HEAD = Mutant("c", "m", "src/lib.rt", ((" u8 { 2", "u8 { 3"),))
+ONE, NEITHER = (place_of({"src/lib.rt": BODIES}, it) for it in (TWO[0], HEAD))
+
+# What tools/test runs and tools/run does not, by its path.
+NOT_PARTS = {it.split()[0] for it in ALL.PARTS + ALL.AT_LAST} | {f"toolchain/{it}" for it in ALL.OVER_LIBRARIES}
+SAID = [
+    (naming_unproved(), MAY_NAME_IT), (NOT_PARTS - set(RUN.parts()), set()),
+    ([" ".join(it.split()) for it in TABLE_OF_OUTCOMES], LINES_OF_OUTCOMES),
+    (ONE and switched(BODIES, [(ONE, 1, TWO[0]), (ONE, 10, TWO[1])]), BODIES.replace("{ 1 }", SWITCHES)), (NEITHER, None),
+]  # fmt: skip
 
 # Checks, by how they end at their tries, and what is counted of them.
 WRONG, LATE = Wrong("a balance of 49999, and not 50000"), Late("no reply within 60 seconds")
@@ -258,6 +305,17 @@ TALLIES = {
     "five_late_ones_of_five": ([[LATE]] * 5, (0, 5, 0)),
     "a_fifth_late": ([[LATE, None]] * 6 + [[None]] * 24, (30, 0, 6)),
     "more_than_a_fifth_late": ([[LATE]] * 7 + [[None]] * 23, (23, 7, 0)),
+}
+
+# Days, by how their checks end at each try, in their order; what is counted of them; and how many days were begun.
+DAYS = {
+    "day_that_passes": ([[None], [None], [None]], (3, 0, 0), 1),
+    "day_after_a_wrong_amount": ([[None], [WRONG], []], (1, 2, 0), 1),
+    "day_that_was_late": ([[None, None], [LATE, None], [None]], (3, 0, 1), 2),
+    "day_whose_first_check_was_late": ([[TimeoutError("timed out"), None], [None]], (2, 0, 1), 2),
+    "day_that_was_late_twice": ([[None, None], [LATE, LATE], []], (1, 2, 0), 2),
+    "day_that_fails_earlier_the_second_time": ([[None, WRONG], [LATE], []], (1, 2, 0), 2),
+    "day_that_was_kept_waiting": ([[None, None], [KeyError("waited"), None]], (2, 0, 1), 2),
 }
 
 # Cases that must be refused as they are read.
@@ -347,7 +405,7 @@ def suite_of(text):
 def require_compiled_anew(room):
     """Passes if every source of the bank program is among those by which tools/try keeps it, and a changed one has it compile."""
     found, path = set(compiling.sources()), os.path.join(room, "source.rt")
-    for crate in below(words_of_all(), [BANK_PROGRAM]):
+    for crate in below(dependencies(), [BANK_PROGRAM]):
         missing = set(glob.glob(f"{TOP}/crates/{crate}/src/**/*.rt", recursive=True)) - found
         require_nothing(f"{it} is not among the sources" for it in missing)
     sums = []
@@ -357,6 +415,18 @@ def require_compiled_anew(room):
         with mock.patch.object(compiling, "sources", lambda: [path]):
             sums.append(compiling.checksum())
     require(sums[0] != sums[1], True, f"checksums {sums} of two sources differ")
+
+
+def require_members_of_the_bank():
+    """Passes if the operations that the tools name by hand, and their members, are those of docs/openapi.json. (The order of the columns
+    stands in docs/OPERATIONS.md alone.)"""
+    with open(os.path.join(TOP, "docs/openapi.json"), encoding="utf-8") as file:
+        page = json.load(file)
+    kinds, paths = page["components"]["schemas"], page["paths"]
+    schema_of = lambda name: paths[f"/do/{name}"]["post"]["requestBody"]["content"]["application/json"]["schema"]["$ref"].rpartition("/")[2]
+    require({it: set(members) for it, members in MEMBERS.items()}, {it: set(kinds[schema_of(it)]["properties"]) for it in MEMBERS}, "members")
+    wanted = kinds["Procedure"]["enum"]
+    require((list(PROCEDURES), list(columns.PROCEDURES)), (wanted, wanted), "procedures")
 
 
 def require_refused(text):
@@ -406,6 +476,34 @@ def require_tally(tries, wanted, go_by_clock=True, in_lanes=False):
     require(said.getvalue().count("passed planted: at the second try"), wanted[2], said.getvalue())
 
 
+def require_day(tries, wanted, begun):
+    """Makes the checks of a day that end so at their tries: this is counted of them, `begun` days are begun, all of them end, and no
+    try is left over. The library of this day raises KeyError if it was kept waiting."""
+    def make(left, day):
+        if (error := left.pop(0)) is not None:
+            raise error
+
+    left, report, days = [list(it) for it in tries], Report(), []
+    with contextlib.redirect_stdout(io.StringIO()) as said:
+        checks = [Check("planted", partial(make, it)) for it in left]
+        Days(lambda: days.append(mock.Mock()) or days[-1], [KeyError]).make_all(report, [*checks, Check("lacks", make, "it")])
+        report.end()
+    found = report.passed, report.failed, report.passed_again, report.skipped, sum(map(len, left))
+    require(found, (*wanted, 1, 0), said.getvalue())
+    require([it.close.call_count for it in days], [1] * begun, f"days: {said.getvalue()}")
+
+
+def require_another_port():
+    """Passes if what finds its port taken is made at another one, and what fails at a free port is not made again."""
+    with socket.create_server((serving.HOST, 0)) as held:
+        taken, free, tried = held.getsockname()[1], serving.free_port(), []
+        for has_it, wanted in ((lambda port: port == free, [taken, free]), (lambda port: port == taken, [free])):
+            with mock.patch.object(serving, "free_port", side_effect=wanted):
+                serving.at_free_port(lambda port: tried.append(port) or port, has_it)
+            require(tried, wanted, "ports")
+            tried.clear()
+
+
 def ask_both(seed):
     """Asks requests that are drawn of a bank over a ledger and of one that adds up: they answer alike, and have the same rows."""
     rng = random.Random(seed)
@@ -425,13 +523,38 @@ def ask_both(seed):
     require([it[:9] for it in sorted(plain.entries)], [it[:9] for it in rows_of_bank(kept)["entries"]], "entries")
 
 
+def require_all_parts_named():
+    """Each part of tools/test is run by its --quick, or left out by name."""
+    below_tools = [*ALL.PARTS, *(f"toolchain/{it}" for it in ("unit-tests", "mutants", *ALL.OVER_LIBRARIES))]
+    parts = {"rt ci", *("tools/" + it.split()[0] for it in below_tools), *ALL.AT_LAST}
+    quick = [it.split()[0] for it in ALL.QUICK]
+    require(sorted([*quick, *ALL.LEFT_OUT]), sorted(parts), "parts that --quick runs or leaves out")
+
+
+def require_retired_names():
+    """A retired word in a name is seen, also in a mutant's line and in the name of a file, and neither in a comment nor in a text."""
+    tried = {
+        ("src/lib.rt", 'fn was_told() {} // told: "had"'): [(1, "was_told")],
+        ("specs/Lib.antt", "IsRowBehind : ℕ -- behind"): [(1, "IsRowBehind")],
+        ("must-fail/a.edit", "had no effect\nold: let a = heard;\nnew: let a = contains_had;"): [(2, "heard")],
+        ("must-fail/is_told.edit", "new: a"): [(0, "is_told")],
+    }
+    for (path, text), wanted in tried.items():
+        require([it[:2] for it in TERMS.faults_of_names(path, text)], wanted, f"retired names in {text!r}")
+
+
 def checks_of(room):
     """All that is tried."""
-    for kind, pairs in (("text", TEXTS), ("build", BUILDS), ("clause", CLAUSES), ("sum", SUMS), ("said", SAID), ("count", COUNTS)):
+    kinds = {"text": TEXTS, "build": BUILDS, "clause": CLAUSES, "sum": SUMS, "said": SAID, "count": COUNTS, "time": TIMES}
+    for kind, pairs in kinds.items():
         for number, (found, wanted) in enumerate(pairs, 1):
             yield Check(f"{kind}_{number}", partial(require, found, wanted, kind))
     for name, (tries, wanted) in TALLIES.items():
         yield Check(name, partial(require_tally, tries, wanted))
+    for name, (tries, wanted, begun) in DAYS.items():
+        yield Check(name, partial(require_day, tries, wanted, begun))
+    for only, wanted in ((["b"], ["a", "b", "ab"]), (["c"], []), ([], ["a", "b", "ab", "d"])):
+        yield Check(f"day_up_to_{'_'.join(only)}", partial(require, up_to_last(["a", "b", "ab", "d"], only), wanted, "names"))
     yield Check("late_in_a_lane", partial(require_tally, [[None], [LATE, None], [WRONG]], (2, 1, 1), in_lanes=True))
     yield Check("late_where_no_clock_is_gone_by", partial(require_tally, [[LATE]], (0, 1, 0), go_by_clock=False))
     for name, text in REFUSED.items():
@@ -440,8 +563,13 @@ def checks_of(room):
         yield Check(name, partial(require_wrong, make))
     for seed in range(1, 4):
         yield Check(f"ledger_{seed}", partial(ask_both, seed))
+    yield Check("port_that_is_taken", require_another_port)
+    yield Check("members_of_the_bank", require_members_of_the_bank)
+    yield Check("retired_names", require_retired_names)
+    yield Check("quick_names_what_it_leaves_out", require_all_parts_named)
     yield Check("first_look_is_compiled_anew", partial(require_compiled_anew, room))
     yield from kept_trials.checks_of(MUTANTS.is_drawn, room)
+    yield from named_paths.checks_of()
     for name, text, wanted in ROWS_TO_RUN:
         yield Check(name, partial(run_last, text, wanted))
 

@@ -14,7 +14,7 @@ import os
 import tempfile
 
 from checks import Report, reader
-from repository import OVER, ROWS_OVER, TOP, kit, words_of_all
+from repository import OVER, ROWS_OVER, TOP, kit, dependencies
 from toolchain.kept import Kept, sum_below, sum_of, sum_of_files, sum_of_kit, sum_of_tools
 from toolchain.program import fault_of, layout_of, steps
 
@@ -26,7 +26,7 @@ TOOLS, MOST_KEPT = ("toolchain/stores_program.py", "toolchain/program.py", "repo
 def name_of(libraries):
     """The name under which the program is kept: a checksum of all that it is proved and built from."""
     home = kit()
-    under = sum_below(words_of_all(), ROWS_OVER, libraries, home)
+    under = sum_below(dependencies(), ROWS_OVER, libraries, home)
     return under and sum_of(sum_of_kit(home), sum_of_tools(TOOLS), under, sum_of_files(FOLDER, "src/**", "specs/**", "proofs/**"))
 
 
@@ -48,11 +48,11 @@ def keep(kept, name):
 
 
 def main():
-    words = reader(__doc__, program=None, has_checks=False)
+    arguments = reader(__doc__, program=None, has_checks=False)
     said = "a copy of the repository whose crates are proved"
-    words.add_argument("--libraries", metavar="FOLDER", type=os.path.abspath, required=True, help=said)
-    words.add_argument("--anew", action="store_true", help="prove and build it, also if an earlier run did")
-    given = words.parse_args()
+    arguments.add_argument("--libraries", metavar="FOLDER", type=os.path.abspath, required=True, help=said)
+    arguments.add_argument("--anew", action="store_true", help="prove and build it, also if an earlier run did")
+    given = arguments.parse_args()
     kept, name, report = Kept("stores-program", given.anew), name_of(given.libraries), Report()
     program = kept.get(name)
     report.add(f"{ROWS_OVER}, its layout", fault_of(layout_of(ROWS_OVER)))

@@ -19,7 +19,7 @@ import shutil
 import tempfile
 
 from checks import Report, reader
-from repository import TOP, below, kit, shared_by_tests, tests_to_run, words_of_all
+from repository import TOP, below, kit, shared_by_tests, tests_to_run, dependencies
 from toolchain.kept import Kept, sum_of, sum_of_files, sum_of_kit, sum_of_tools
 from toolchain.program import layout_of, output_of
 
@@ -66,7 +66,7 @@ def add_module(name, folder):
 
 def make_whole(names, room):
     """Makes a repository in a folder that has the crates below these and one with the tests of all, and returns its folder."""
-    uses = words_of_all()
+    uses = dependencies()
     for it in below(uses, names):
         if it not in names:
             left_out = shutil.ignore_patterns("out", "must-fail")
@@ -172,12 +172,12 @@ def run_tests(names, is_anew):
 
 
 def main():
-    uses = words_of_all()
+    uses = dependencies()
     shared = shared_by_tests(uses)
-    words = reader(__doc__, program=None, has_checks=False)
-    words.add_argument("--anew", action="store_true", help="compile the tests, also if an earlier run did")
-    words.add_argument("crates", metavar="CRATE", nargs="*")
-    given = words.parse_args()
+    arguments = reader(__doc__, program=None, has_checks=False)
+    arguments.add_argument("--anew", action="store_true", help="compile the tests, also if an earlier run did")
+    arguments.add_argument("crates", metavar="CRATE", nargs="*")
+    given = arguments.parse_args()
     names = given.crates or [it for it in tests_to_run(uses) if it not in shared]
     counts, lines = run_tests(names, given.anew)
     for name in [*names, *(it for it in below(uses, names) if it in shared)]:
