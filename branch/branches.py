@@ -4,7 +4,6 @@ import contextlib
 import http.client
 import json
 import os
-import random
 import re
 import resource
 import shutil
@@ -17,13 +16,16 @@ import sys
 import tempfile
 import threading
 import time
+from collections.abc import Callable
 from pathlib import Path
+from typing import NamedTuple
 
 HERE = Path(__file__).resolve().parent
 sys.path.append(str(HERE.parent / "tools"))
 
 from checks import Late, Wrong, require, wait_until
 from model.bank import PROCEDURES
+from serving import free_port
 
 TELLERS = ["amy", "ben", "cai", "dot", "eli", "fay"]
 # An officer, two certifiers and a supervisor, by their badges; the tellers are users 7 to 12.
@@ -38,15 +40,20 @@ COLUMNS = {
 }
 # Debian has nginx where only root looks.
 PATH = os.environ.get("PATH", "/usr/bin:/bin") + ":/usr/sbin:/sbin"
-PACKAGES = {"nginx": "nginx-light", "openssl": "openssl", "curl": "curl"}
+PACKAGES = {"nginx": "nginx-light", "openssl": "openssl", "curl": "curl", "rsync": "rsync"}
 NOBODY = 65534
-# For so many seconds a test waits for what has to come: a busy machine takes its time.
+# For how many seconds a test waits for what has to come: a busy machine takes its time.
 PATIENCE = 60
-PORTS, PORTS_LOCK = set(), threading.Lock()
 # The status of a curl whose time is over.
 CURL_LATE = 28
 # Changes of the front's settings that lift its limits per certificate.
-NO_RATE = [("limit_req zone=by_certificate burst=40 nodelay;", ""), ("limit_conn open_by_certificate 20;", "")]
+NO_RATE = [("limit_req zone=by_certificate burst=40 nodelay;", ""), ("limit_conn open_by_certificate 20;", ""),
+           ("limit_req zone=files_by_certificate burst=400 nodelay;", "")]
+# What the package has of this folder, beside the units.
+COMMANDS = ("certificates", "audit", "audit.sql", "accept", "seal", "verify_seals.py", "replay_policy.py", "evidence", "VERIFY.txt", "check-file", "forward", "parts",
+            "bank-gather", "bank-fetch", "bank-bring-up")
+# The pipes of the trail, in the order in which they are handed over.
+PIPES = ("audit", "refused", "policy")
 
 
 def missing():
@@ -54,18 +61,6 @@ def missing():
     echo = re.search(r"^load_module (\S+);", (HERE / "front/nginx.conf").read_text(), re.MULTILINE)[1]
     found = [f"{it} (package {package})" for it, package in PACKAGES.items() if not shutil.which(it, path=PATH)]
     return found + ([] if os.path.exists(echo) else [f"{echo} (package libnginx-mod-http-echo)"])
-
-
-def free_port():
-    """A port of 127.0.0.1 that nobody has, no other branch here gets, and no connection takes for its own end: Linux takes those
-    from 32768 on."""
-    while True:
-        port = random.randrange(10000, 32768)
-        with contextlib.suppress(OSError), PORTS_LOCK, socket.socket() as tried:
-            tried.bind(("127.0.0.1", port))
-            if port not in PORTS:
-                PORTS.add(port)
-                return port
 
 
 def write_lists(folder):
@@ -94,6 +89,17 @@ def write_lists(folder):
         (13, "proof", 1, 0), (13, "close-day", 1, 0)])
 
 
+class Staff(NamedTuple):
+    """Who works at a bank: the badges of its tellers, the user of each badge, and what writes its opening lists into a new folder."""
+
+    tellers: list[str]
+    users: dict[str, int]
+    write_lists: Callable[[Path], None]
+
+
+SIX = Staff(TELLERS, USERS, write_lists)
+
+
 def become_nobody():
     os.setgroups([])
     os.setgid(NOBODY)
@@ -104,19 +110,25 @@ class Files:
     """What a branch needs of this folder and the program, in a temporary folder of an unprivileged user, who this process becomes
     where it is root's. They are copied before, as that user may have no right to read this folder."""
 
-    def __init__(self, program):
+    def __init__(self, program, staff=SIX):
+        self.staff = staff
         os.environ["PATH"] = PATH
-        # As the front's unit: it has 2,048 connections, and a login often 1,024 files.
+        # As the front's unit: it has 8,192 connections, and a login often 1,024 files.
         with contextlib.suppress(ValueError): # where no more are allowed
-            resource.setrlimit(resource.RLIMIT_NOFILE, (8192, resource.getrlimit(resource.RLIMIT_NOFILE)[1]))
+            resource.setrlimit(resource.RLIMIT_NOFILE, (16384, resource.getrlimit(resource.RLIMIT_NOFILE)[1]))
         self.top = Path(tempfile.mkdtemp(prefix="branch-"))
         self.folders = collections.Counter()
         self.lock = threading.Lock() # of what the front reads of the certificates, while a command writes it anew
         shutil.copy(program, self.top / "bank_cli")
-        shutil.copy(HERE / "certificates", self.top)
-        for folder in ("front", "units"):
+        for name in COMMANDS:
+            shutil.copy(HERE / name, self.top)
+        for folder in ("front", "two-machines", "units"):
             shutil.copytree(HERE / folder, self.top / folder)
-        shutil.copytree(HERE.parent / "desk/page", self.top / "page")
+        for page in ("BRANCH.md", "PEOPLE.md"):
+            shutil.copy(HERE.parent / "docs" / page, self.top)
+        for folder, name in (("desk/page", "page"), ("sample", "sample")):
+            shutil.copytree(HERE.parent / folder, self.top / name)
+        shutil.copytree(HERE.parent / "office/bank_office", self.top / "bank_office", ignore=shutil.ignore_patterns("__pycache__"))
         if os.geteuid() == 0:
             for folder, _, names in os.walk(self.top):
                 for path in (folder, *(os.path.join(folder, name) for name in names)):
@@ -133,7 +145,7 @@ class Files:
 
     def make_certificates(self):
         self.certificates("begin", "localhost")
-        for badge in [*USERS, "lost", "unlisted"]:
+        for badge in [*self.staff.users, "lost", "unlisted"]:
             self.certificates("teller", badge)
 
     def certificates(self, command, *arguments):
@@ -175,7 +187,7 @@ class Client:
         self.fields = {"Bank-Session": str(branch.sessions[who])}
 
     def ask(self, path, body, pause=0.0):
-        """The status and the body of the reply; the status is 0 where none came. The request's body is sent so many seconds after
+        """The status and the body of the reply; the status is 0 where none came. The request's body is sent `pause` seconds after
         its head."""
         text = json.dumps(body).encode()
         try:
@@ -196,22 +208,25 @@ class Branch:
     """A front and a bank. The bank is started again when it ends, over the same listening socket, as systemd does it.
 
     `changes` are pairs of texts in the front's settings, old and new; without `bank` there is neither a bank nor its socket; the
-    socket is one of TCP where that is asked for; the bank's file is in `room`, where one is given.
+    socket is one of TCP where that is asked for; the bank's file is in `room`, where one is given; of refused requests a file
+    has `most` bytes.
     """
 
-    def __init__(self, files, name, changes=(), bank=True, tcp=False, room=None):
+    def __init__(self, files, name, changes=(), bank=True, tcp=False, room=None, most=8_000_000):
         self.files, self.is_tcp = files, tcp
         self.folder = files.folder(name)
         # Opened here and handed to the front, as systemd does it: nobody else gets its port meanwhile.
         door = socket.create_server(("127.0.0.1", 0), backlog=1024)
         door.setblocking(False)
-        self.port, self.bank_port = door.getsockname()[1], free_port()
+        self.port, self.bank_port = door.getsockname()[1], free_port() if tcp else None
         self.url = f"https://localhost:{self.port}"
         self.sessions = {}
         self.kept, self.bank, self.socket, self.starts, self.ends = False, None, None, 0, []
         self.file = (room or self.folder) / "bank"
-        for part in ("etc", "log", "run"):
+        for part in ("etc", "log", "run/trail"):
             (self.folder / part).mkdir(parents=True)
+        self.pipes = [self.pipe(it) for it in PIPES]
+        self.most = most
         self.socket_path = self.folder / "run/bank.socket"
         self.write_settings([*changes, ("unix:/run/bank.socket", f"127.0.0.1:{self.bank_port}" if tcp else f"unix:{self.socket_path}")])
         self.nginx = ["nginx", "-p", self.folder, "-c", self.folder / "etc/nginx.conf", "-e", self.folder / "log/error.log"]
@@ -223,12 +238,13 @@ class Branch:
             self.front = subprocess.Popen([*self.nginx, "-g", "daemon off;"], stdin=subprocess.DEVNULL,
                                           stderr=subprocess.DEVNULL, pass_fds=[door.fileno()],
                                           env={**os.environ, "NGINX": f"{door.fileno()};"})
+        self.keep_trail()
         self.await_front()
-        write_lists(self.folder / "lists")
+        self.files.staff.write_lists(self.folder / "lists")
         if bank:
             self.run_bank("init", self.file, self.folder / "lists", "--sums", says="made\n")
             self.keep()
-            for badge in TELLERS:
+            for badge in self.files.staff.tellers:
                 self.begin(badge)
 
     def write_settings(self, changes):
@@ -240,7 +256,8 @@ class Branch:
         shutil.copytree(self.files.top / "page", self.folder / "page")
         (etc / "origins.map").write_text(f'"{self.url}" own;\n')
         swaps = [*changes, ("/etc/bank-front", str(etc)), ("/usr/share/tespiorvu/page", str(self.folder / "page")),
-                 ("/var/log/bank-front", str(self.folder / "log")), ("/run/bank-front", str(self.folder / "run")), ("0.0.0.0:443", f"127.0.0.1:{self.port}")]
+                 ("error_log stderr", f"error_log {self.folder}/log/error.log"), ("/run/bank-trail", str(self.folder / "run/trail")),
+                 ("/run/bank-front", str(self.folder / "run")), ("0.0.0.0:443", f"127.0.0.1:{self.port}")]
         for file in etc.rglob("*.conf"):
             self.swap(file, file, swaps)
         self.swap(self.files.top / "units/serve-bank", self.folder / "serve-bank",
@@ -268,6 +285,27 @@ class Branch:
     def run_bank(self, *arguments, says=""):
         ran = subprocess.run([self.files.top / "bank_cli", *arguments], capture_output=True, text=True, stdin=subprocess.DEVNULL)
         require((ran.returncode, ran.stdout, ran.stderr), (0, says, ""), f"bank_cli {arguments[0]}")
+
+    # ---- the trail, as systemd keeps it
+
+    def pipe(self, name):
+        """Makes a pipe of the trail, and opens it, so that it stays open while who keeps the trail starts anew."""
+        path = self.folder / "run/trail" / name
+        os.mkfifo(path, 0o600)
+        return os.open(path, os.O_RDWR)
+
+    def keep_trail(self):
+        """Starts who keeps the trail, and hands the pipes over as descriptors 3 and up."""
+        hand_over = 'exec 3<>"$1" 4<>"$2" 5<>"$3" && exec "$0" "$4" "$5"'
+        pipes = [self.folder / "run/trail" / it for it in PIPES]
+        words = ["sh", "-c", hand_over, self.files.top / "units/keep-trail", *pipes, self.folder / "log", str(self.most)]
+        with open(self.folder / "log/trail-errors", "a", encoding="utf-8") as errors:
+            self.trail = subprocess.Popen(words, env={"PATH": PATH, "LISTEN_FDS": str(len(PIPES))}, stdin=subprocess.DEVNULL, stderr=errors)
+
+    def end_trail(self):
+        """Ends who keeps the trail, by order, once what came is kept."""
+        self.trail.send_signal(signal.SIGTERM)
+        self.trail.wait()
 
     # ---- the bank, as systemd keeps it
 
@@ -366,13 +404,14 @@ class Branch:
         status, text = self.ask(who, "/session", "")
         require(status, 200, f"session of {who}: {text}")
         self.sessions[who] = json.loads(text)["session"]
-        if drawer and who in TELLERS:
-            status, text = self.ask(who, "/do/drawer-on", {"branch": 1, "cash": 1000, "teller": 11 + TELLERS.index(who)})
+        tellers = self.files.staff.tellers
+        if drawer and who in tellers:
+            status, text = self.ask(who, "/do/drawer-on", {"branch": 1, "cash": 1000, "teller": 11 + tellers.index(who)})
             require(status, 200, f"drawer of {who}: {text}")
 
     def post_of(self, who, delta=1, account=None):
         """The body of a post at a teller's own drawer."""
-        i = TELLERS.index(who)
+        i = self.files.staff.tellers.index(who)
         return {"account": account or 101 + i, "branch": 1, "delta": delta, "teller": 11 + i}
 
     # ---- asking by bytes
@@ -384,10 +423,10 @@ class Branch:
             with self.files.context(who, protocols).wrap_socket(bare, server_hostname="localhost") as client:
                 yield client
 
-    def exchanged(self, who, given, is_whole=lambda got: False, protocols=()):
+    def exchanged(self, who, given, is_whole=lambda got: False):
         """What comes back for these bytes until the front ends the connection, or, once that is whole, sends nothing more."""
         got = b""
-        with self.connected(who, protocols) as client, contextlib.suppress(OSError):
+        with self.connected(who) as client, contextlib.suppress(OSError):
             client.settimeout(PATIENCE)
             client.sendall(given)
             try:
@@ -418,9 +457,10 @@ class Branch:
             return {table: found.execute(f"SELECT {columns} FROM {table} ORDER BY 1, 2").fetchall()
                     for table, columns in COLUMNS.items()}
 
-    def audit(self):
-        """The lines of the audit trail, without one that is being written."""
-        return [json.loads(line) for line in (self.folder / "log/audit.log").read_bytes().split(b"\n")[:-1]]
+    def audit(self, name="audit"):
+        """The lines of the audit trail, or of another file beside it, without one that is being written."""
+        path = self.folder / f"log/{name}.log"
+        return [json.loads(line) for line in path.read_bytes().split(b"\n")[:-1]] if path.exists() else []
 
     def workers(self):
         """The processes of the front that serve clients, without those that only end what they have begun."""
@@ -444,3 +484,6 @@ class Branch:
         self.stop_listening()
         self.front.send_signal(signal.SIGTERM)
         self.front.wait()
+        self.end_trail()
+        while self.pipes:
+            os.close(self.pipes.pop())

@@ -1,4 +1,4 @@
-"""The pair: its machines, networks and switch, made by the page's lines, and looked at."""
+"""The pair: its machines, networks and switch, made by the page's lines, and looked at. This one has our own watch."""
 import random
 import shutil
 import time
@@ -6,37 +6,44 @@ from collections.abc import Sequence
 from functools import partial
 from pathlib import Path
 
-from branches import TELLERS, USERS, write_lists
+from branches import TELLERS, USERS
 from checks import Late, Wrong, require, wait_until
 from pair import networks
 from pair.commands import say
 from pair.comparison import compare, require_same_disks
 from pair.image import DISK
-from pair.machines import MACHINES, Machine, on_each
+from pair.lists import BADGE, write_lists
+from pair.machines import HOSTS, MACHINES, PAUSE, Machine, on_each
 from pair.page import blocks, lines_of
 from pair.plants import Plant
 from pair.power import Switch
-from pair.tellers import WITH_SLIPS, Book, Client, Load
+from pair.tellers import ADDRESS, WITH_SLIPS, Book, Client, Load
 
-# What is other here than in an office: the disk, the card's name, and a slower machine.
-SETTINGS = f"""
+# What is other here than in an office: the disk, the card's name, and a slower machine with a small disk.
+DISK_SETTINGS = f"""
     sed -i 's,/dev/vdb,{DISK},; s,ping-timeout 30,ping-timeout 60,' /etc/drbd.d/bank.res
-    sed -i 's,eth0,vec0,' /etc/bank-branch.conf
+    mkdir -p /etc/systemd/system/bank-disk.service.d
+    printf '[Service]\\nEnvironment=LEAST=16\\n' >/etc/systemd/system/bank-disk.service.d/trial.conf
 """
 SAMPLE = "/usr/share/doc/tespiorvu/examples/sample"
 WHOLE = "grep -q 'cs:Connected ro:[PS].* ds:UpToDate/UpToDate' /proc/drbd"
-SERVES = "systemctl is-active -q bank-front bank && grep -q ro:Primary /proc/drbd"
-# A machine is up in 10 to 60 seconds, and a branch is taken over in 20 to 60.
-PATIENCE = 240
+SERVES = "systemctl is-active -q bank-front && systemctl is-active -q bank && grep -q ro:Primary /proc/drbd"
 
 
 class Pair:
     """Two machines with a branch, its tellers and their book."""
 
+    # Which way this is; with what the marks of its blocks on the page begin; and what is other here than there.
+    way, prefix = "watch", "watch-"
+    settings = DISK_SETTINGS + "sed -i 's,eth0,vec0,' /etc/bank-branch.conf"
+    # A machine is up in 10 to 60 seconds, and a branch is taken over in 20 to 60; on a busy machine all takes ten times as long.
+    patience = 600
+
     def __init__(self, folder: Path, image: Path, plant: Plant | None) -> None:
-        self.folder, self.plant = folder, plant
-        networks.build(MACHINES)
+        self.folder, self.image, self.plant = folder, image, plant
+        networks.build(HOSTS)
         self.machines = {name: Machine(folder, image, name) for name in MACHINES}
+        self.others: dict[str, Machine] = {}
         self.a, self.b = self.machines.values()
         self.switch = Switch(self.machines)
         self.authority, self.book = folder / "authority", Book(folder / "book")
@@ -53,19 +60,21 @@ class Pair:
             shutil.copy(package, brought)
         write_lists(brought / "lists")
         self.all_on()
-        on_each(self.machines.values(), lambda it: it.put(brought, "/srv/brought"))
+        on_each([*self.machines.values(), *self.others.values()], lambda it: it.put(brought, "/srv/brought"))
         say("both machines have started")
-        for number, (mark, lines, wanted) in enumerate(blocks()):
-            names = list(MACHINES) if mark == "both" else [mark] if mark in MACHINES else []
-            lines = lines.replace(SAMPLE, "/srv/brought/lists").replace("tess tom sue", f"sue {' '.join(TELLERS)}")
+        known = {**self.machines, **self.others}
+        for number, (mark, lines, wanted) in enumerate(blocks(self.prefix)):
+            names = list(MACHINES) if mark == "both" else [mark] if mark in known else []
+            lines = lines.replace(SAMPLE, "/srv/brought/lists").replace("tess tom sue", f"sue {BADGE} {' '.join(TELLERS)}")
 
             def carry_out(machine: Machine, lines: str = lines, wanted: str = wanted) -> None:
                 wrote = machine.done(f"set -e; cd /srv/brought; exec 2>&1; {lines}")
                 if wanted:
                     require(wanted.strip() in wrote.splitlines(), True, f"{wanted.strip()!r} of {lines[:40]!r}: {wrote}")
-            on_each([self.machines[name] for name in names], carry_out)
+            on_each([known[name] for name in names], carry_out)
+            say(f"block {number} of the page is carried out")
             if number == 0:
-                on_each(self.machines.values(), lambda it: it.done(SETTINGS))
+                on_each(self.machines.values(), lambda it: it.done(self.settings))
         say("the lines of the page are carried out")
         self.await_whole()
         self.a.fetch("/root/authority", self.authority)
@@ -74,6 +83,7 @@ class Pair:
 
     def sow(self) -> None:
         """Plants the fault, if there is one, while the branch serves. What is started once has it from the next start on."""
+        self.switch.is_false = self.plant is not None and self.plant.has_false_switch
         if self.plant and not (self.folder / "sown").exists():
             for line in self.plant.lines:
                 on_each(self.machines.values(), partial(Machine.done, text=line))
@@ -81,11 +91,18 @@ class Pair:
 
     def begin_sessions(self) -> None:
         """Each teller begins a session and puts a drawer on."""
+        for who in TELLERS:
+            client = Client(self.authority, who, ADDRESS, 20)
+            wait_until(lambda: client.ask("/session") == (200, '{"session":1}'), self.patience, f"session of {who}", 0.5)
+            client.close()
+        self.begin_drawers()
+
+    def begin_drawers(self) -> None:
+        """Each teller puts a drawer on."""
         for i, who in enumerate(TELLERS):
-            client = Client(self.authority, who, "10.0.0.1", 20)
+            client = Client(self.authority, who, ADDRESS, 20)
             body = {"branch": 1, "cash": 1000, "teller": 11 + i}
-            wait_until(lambda: client.ask("/session") == (200, '{"session":1}'), PATIENCE, f"session of {who}", 0.5)
-            wait_until(lambda: client.ask("/do/drawer-on", body)[0] == 200, PATIENCE, f"drawer of {who}", 0.5)
+            wait_until(lambda: client.ask("/do/drawer-on", body)[0] == 200, self.patience, f"drawer of {who}", 0.5)
             client.close()
 
     def go_on(self) -> None:
@@ -97,8 +114,27 @@ class Pair:
         """Does what the page asks of a person after both were off."""
         self.await_same()
         if not self.primary():
-            random.choice([self.a, self.b]).done(lines_of("there"))
+            random.choice([self.a, self.b]).done(lines_of("watch-there"))
         self.await_whole()
+
+    def move(self, here: Machine, there: Machine) -> None:
+        """Moves the branch by the lines of the page."""
+        here.done(lines_of("watch-here"))
+        there.done(lines_of("watch-there"))
+
+    def parts(self, there: Machine, moment: float) -> str:
+        """How long the parts of a takeover took, since a moment in seconds since 1970, by the journal of the machine that took over."""
+        asked = time.time()
+        ahead = float(there.done("date +%s.%N")) - (asked + time.time()) / 2 # its clock, which no server sets
+        found = [moment + ahead]
+        journal = there.done(f"journalctl -o short-unix -u bank-stand-by -u bank-branch --since @{int(found[0])} --no-pager")
+        for text in ("the other is silent", "the disk is this machine's", "the branch is here"):
+            lines = [line for line in journal.splitlines() if text in line and float(line.split()[0]) > found[-1]]
+            if not lines:
+                return "parts not found"
+            found.append(float(lines[0].split()[0]))
+        silent, disk, units = (later - earlier for earlier, later in zip(found, found[1:]))
+        return f"silent {silent:.1f}, fenced {disk:.1f}, units {units:.1f} s"
 
     def serve(self) -> None:
         """Has the tellers post."""
@@ -131,14 +167,22 @@ class Pair:
 
     def await_same(self) -> None:
         """Waits until both disks have the same."""
-        end = time.monotonic() + PATIENCE
+        end = time.monotonic() + self.patience
         while not all(it.is_on() and not it.sh(WHOLE, timeout=60).returncode for it in self.machines.values()):
             states = self.states()
             if "cs:StandAlone" in states:
                 raise Wrong(f"DRBD has given up: {states}")
             if time.monotonic() > end:
-                raise Late(f"the disks are not the same within {PATIENCE} seconds: {states}")
-            time.sleep(0.5)
+                raise Late(f"the disks are not the same within {self.patience} seconds: {states}")
+            time.sleep(PAUSE)
+
+    def await_primary(self) -> None:
+        """Waits until one machine has the disk."""
+        end = time.monotonic() + self.patience
+        while not self.primary():
+            if time.monotonic() > end:
+                raise Late(f"the branch is on neither: {self.states()}")
+            time.sleep(PAUSE)
 
     def await_whole(self) -> float:
         """Waits until both disks have the same, and one machine serves; how long that took."""
@@ -146,13 +190,13 @@ class Pair:
         self.await_same()
         for each in self.machines.values():
             if " ro:Primary/" in each.state():
-                each.await_that(SERVES, PATIENCE)
+                each.await_that(SERVES, self.patience)
                 return time.monotonic() - since
         raise Wrong(f"the branch is on neither: {self.states()}")
 
-    def await_acknowledged(self, seconds: float = PATIENCE) -> None:
+    def await_acknowledged(self) -> None:
         """Waits until each teller who has slips has been acknowledged once more."""
-        since = time.monotonic()
+        since, seconds = time.monotonic(), self.patience
         users = {USERS[who] for who in WITH_SLIPS}
         before = {user: self.book.acknowledged_of(user) for user in users}
         while any(self.book.acknowledged_of(user) <= count for user, count in before.items()):
@@ -162,7 +206,7 @@ class Pair:
 
     def check(self) -> int:
         """Has the tellers stop, and compares what the disks have with their book. How many entries are new."""
-        self.load.stop()
+        self.load.stop(self.patience)
         before, self.entries = self.entries, compare(self.serving(), self.book)
         require_same_disks(list(self.machines.values()))
         self.load.start()
@@ -171,20 +215,24 @@ class Pair:
     # ---- mending
 
     def all_on(self) -> None:
-        """Gives power to both machines, and waits until they have started."""
-        began = [it for it in self.machines.values() if not it.is_on()]
+        """Gives power to all machines, and waits until they have started."""
+        began = [it for it in (*self.others.values(), *self.machines.values()) if not it.is_on()]
         for each in began:
             each.on()
         on_each(began, Machine.up)
 
     def repair(self) -> None:
         """After a round that failed: all plugs are in, both machines have power, and the branch is on one."""
-        networks.mend(MACHINES)
+        networks.mend(HOSTS)
         self.all_on()
         self.recover()
         self.load.start()
 
-    def end(self) -> None:
-        """Switches both machines off, which keep their disks."""
-        for each in self.machines.values():
+    def all_off(self) -> None:
+        """The power of all machines fails, which keep their disks."""
+        for each in (*self.machines.values(), *self.others.values()):
             each.off()
+
+    def end(self) -> None:
+        """Ends all that the trial began."""
+        self.all_off()

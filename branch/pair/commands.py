@@ -8,7 +8,8 @@ from checks import Wrong
 
 # What the trial needs here, and the Debian package of each.
 COMMANDS = {"linux.uml": "user-mode-linux", "debootstrap": "debootstrap", "mkfs.ext4": "e2fsprogs", "ip": "iproute2",
-            "unshare": "util-linux", "ssh": "openssh-client", "tar": "tar", "dpkg-deb": "dpkg"}
+            "unshare": "util-linux", "ssh": "openssh-client", "tar": "tar", "dpkg-deb": "dpkg", "ipmi_sim": "openipmi", "curl": "curl",
+            "cc": "gcc"}
 BEGAN = time.monotonic()
 
 

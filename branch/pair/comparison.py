@@ -1,5 +1,5 @@
 """What the bank's disk has, beside what was acknowledged."""
-from branches import USERS
+from branches import TELLERS, USERS
 from checks import require
 from pair.machines import Machine
 from pair.tellers import WITHOUT_SLIPS, Book
@@ -9,7 +9,8 @@ COPY = """
     rm -rf /tmp/looked && mkdir /tmp/looked && cd /tmp/looked && cp /var/lib/bank/bank* . && echo badge,user >badges
     bank_cli run bank --badges badges --moment 0 </dev/null && bank_cli check bank
 """
-ENTRIES = "SELECT number, user_no, delta FROM entries"
+# Of the tellers; what the office pays has a look of its own.
+ENTRIES = f"SELECT number, user_no, delta FROM entries WHERE user_no IN ({', '.join(str(USERS[it]) for it in TELLERS)})"
 UNEQUAL = """SELECT {key} FROM {table} AS it WHERE balance != opening +
     (SELECT coalesce(sum(delta), 0) FROM entries WHERE entries.{key} = it.{key})"""
 SUMS = {"accounts": "account", "tellers": "teller", "branches": "branch"}

@@ -5,7 +5,7 @@ import statistics
 from pathlib import Path
 from typing import NamedTuple
 
-from pair.rounds import KINDS, Kind
+from pair.rounds import Kind, kinds_of
 
 HEADING = ("| Round | Passed | Seconds without service: least, median, most | Posts acknowledged | "
            "Of posts without a slip that were not answered: there, not there |")
@@ -39,18 +39,18 @@ def read(path: Path) -> list[Round]:
     return [Round(it[1], it[2], float(it[3]), int(it[4]), int(it[5]), int(it[6]), it[7]) for it in found]
 
 
-def next_kind(rounds: list[Round], names: tuple[str, ...]) -> Kind:
+def next_kind(rounds: list[Round], way: str, names: tuple[str, ...]) -> Kind:
     """A kind of these names, or of all, at random, by how many of it are wanted still."""
-    kinds = [it for it in KINDS if not names or it.name in names]
+    kinds = [it for it in kinds_of(way) if not names or it.name in names]
     passed = [it.kind for it in rounds if it.result == "passed"]
     due = [max(0, it.wanted - passed.count(it.name)) for it in kinds]
     return random.choices(kinds, due if any(due) else None)[0]
 
 
-def table(rounds: list[Round]) -> str:
-    """The table of all kinds."""
+def table(rounds: list[Round], way: str) -> str:
+    """The table of all kinds of a way."""
     lines = [HEADING, "|---" * 5 + "|"]
-    for kind in KINDS:
+    for kind in kinds_of(way):
         of_it = [it for it in rounds if it.kind == kind.name]
         good = [it for it in of_it if it.result == "passed"]
         pauses = [it.pause for it in good]

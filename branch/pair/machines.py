@@ -1,4 +1,4 @@
-"""The two machines, as processes of User-Mode Linux that are switched on and off."""
+"""The machines, as processes of User-Mode Linux that are switched on and off."""
 import contextlib
 import os
 import signal
@@ -14,7 +14,12 @@ from pair.commands import run
 from pair.networks import NETWORKS
 
 MACHINES = {"a": 11, "b": 12}
+# With Pacemaker a third has a voice.
+THIRD = "third"
+HOSTS = {**MACHINES, THIRD: 13}
 DISK_SIZE = "64M"
+# Seconds between two looks at a machine, each of which takes up to one of its processor.
+PAUSE = 4
 # The device's state, as DRBD says it.
 STATE = "sed -n 's/^ *0: //p' /proc/drbd"
 
@@ -23,7 +28,7 @@ class Machine:
     """A machine that is switched on and off. Its two disks are files in the folder, and stay."""
 
     def __init__(self, folder: Path, image: Path, name: str) -> None:
-        self.folder, self.image, self.name, self.host = folder, image, name, MACHINES[name]
+        self.folder, self.image, self.name, self.host = folder, image, name, HOSTS[name]
         self.process: subprocess.Popen[bytes] | None = None
         self.lock = threading.Lock()
         if not (folder / f"{name}.disk").exists():
@@ -42,9 +47,10 @@ class Machine:
                        "con=null", "con0=null,fd:1", "ssl=null", f"systemd.hostname={self.name}"]
             command += [f"vec{number}:transport=tap,ifname={self.name}-{network},mac=52:54:00:00:{number:02}:{self.host}"
                         for number, network in enumerate(NETWORKS)]
+            settings = {**os.environ, "TMPDIR": "/dev/shm", "LD_PRELOAD": str(self.image.with_name("registers.so"))}
             with open(self.folder / f"{self.name}.console", "ab") as console:
                 self.process = subprocess.Popen(command, cwd=self.folder, stdin=subprocess.DEVNULL, stdout=console, stderr=console,
-                                                process_group=0, env={**os.environ, "TMPDIR": "/dev/shm"})
+                                                start_new_session=True, env=settings)
 
     def up(self) -> None:
         """Waits until it has started, and keeps a connection to it that later orders use."""
@@ -59,6 +65,12 @@ class Machine:
             if self.process and self.is_on():
                 os.killpg(self.process.pid, signal.SIGKILL)
                 self.process.wait()
+
+    def hang(self, is_hung: bool) -> None:
+        """It stands still, as with a fault of its hardware, or goes on."""
+        with self.lock:
+            if self.process and self.is_on():
+                os.killpg(self.process.pid, signal.SIGSTOP if is_hung else signal.SIGCONT)
 
     def is_on(self) -> bool:
         """Whether it has power."""
@@ -84,7 +96,7 @@ class Machine:
         while self.sh(text, timeout=60).returncode:
             if time.monotonic() > end:
                 raise Late(f"{self.name}: {text!r} not within {seconds:.0f} seconds: {self.state()}")
-            time.sleep(0.5)
+            time.sleep(PAUSE)
 
     def state(self) -> str:
         """What DRBD says there of the disk; nothing if it has no power."""

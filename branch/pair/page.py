@@ -1,4 +1,5 @@
-"""The lines of docs/TWO-MACHINES.md, by the mark of each block: who carries them out, and what they have to print."""
+"""The lines of docs/TWO-MACHINES.md, by the mark of each block: who carries them out, and what they have to print. The marks of our
+own watch begin with `watch-`; those of Pacemaker, and of what both have, with nothing."""
 import re
 from collections.abc import Iterator
 from typing import NamedTuple
@@ -17,14 +18,15 @@ class Block(NamedTuple):
     wanted: str
 
 
-def blocks() -> Iterator[Block]:
-    """All blocks of the page that have a mark, in order."""
-    return (Block(*it) for it in BLOCK.findall(PAGE.read_text()))
+def blocks(prefix: str = "") -> Iterator[Block]:
+    """The blocks of the page whose mark is a prefix and a word, in order, by that word."""
+    found = (Block(*it) for it in BLOCK.findall(PAGE.read_text()))
+    return (it._replace(mark=it.mark.removeprefix(prefix)) for it in found if re.fullmatch(f"{prefix}[a-z]+", it.mark))
 
 
 def lines_of(mark: str) -> str:
     """The lines of the only block with a mark."""
-    found = [it.lines for it in blocks() if it.mark == mark]
+    found = [it[1] for it in BLOCK.findall(PAGE.read_text()) if it[0] == mark]
     if len(found) != 1:
         raise ValueError(f"{PAGE} has {len(found)} blocks {mark}")
     return found[0]

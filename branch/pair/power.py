@@ -24,6 +24,8 @@ class Switch:
 
     def __init__(self, machines: dict[str, Machine]) -> None:
         self.machines, self.orders = machines, list[Order]()
+        # Machines that it says are off, and that have power still: a fault that can be planted.
+        self.is_false, self.said_off = False, set[str]()
         switch = self
 
         class Handler(http.server.BaseHTTPRequestHandler):
@@ -51,8 +53,11 @@ class Switch:
         if what in ("on", "off"):
             self.orders.append(Order(time.monotonic(), what, name, by))
             say(f"the switch turns {name} {what}, for {by}")
-            getattr(machine, what)()
-        return b"on\n" if machine.is_on() else b"off\n"
+            if not self.is_false:
+                getattr(machine, what)()
+            elif what == "off":
+                self.said_off.add(name)
+        return b"on\n" if machine.is_on() and name not in self.said_off else b"off\n"
 
     def turned_off(self, since: float) -> list[Order]:
         """The orders to turn a machine off from a moment on."""

@@ -1,34 +1,19 @@
 """The rounds: what is done to a pair while tellers post. Each returns what was seen."""
 import random
-import subprocess
 import time
 from collections.abc import Callable
 from typing import NamedTuple
 
 from checks import Wrong, require
 from pair import networks
-from pair.branch_pair import PATIENCE, Pair
+from pair.branch_pair import Pair
 from pair.image import DISK
-from pair.machines import MACHINES, Machine, on_each
+from pair.machines import HOSTS, MACHINES, THIRD, Machine, on_each
+from pair.office import office_over_a_year
 from pair.page import lines_of
 
-# Seconds for which a cut lasts, and for which an old disk is watched.
-CUT, WATCHED = (18, 30), 30
-# The fence agent of the trial's switch says what it is, which is all that crm asks for. The file of the cluster is one of its own.
-LOAD = r"""
-    cd /usr/share/doc/tespiorvu/examples/two-machines/pacemaker && mkdir -p /tmp/pacemaker
-    { echo '#!/bin/sh'; echo "echo '<resource-agent name=\"fence_trial\"><longdesc>x</longdesc><shortdesc>x</shortdesc><parameters>"
-      for it in ip username password lanplus; do echo "<parameter name=\"$it\"><content type=\"string\"/></parameter>"; done
-      echo "</parameters><actions><action name=\"on\"/><action name=\"off\"/><action name=\"status\"/><action name=\"monitor\"/></actions>"
-      echo "</resource-agent>'"; } >/usr/sbin/fence_trial && chmod 755 /usr/sbin/fence_trial
-    sed s/fence_ipmilan/fence_trial/ switch.crm >/tmp/pacemaker/switch.crm
-    export CIB_file=/tmp/pacemaker/cib.xml HOME=/root
-    cibadmin --empty >$CIB_file
-    crm -F configure load update /tmp/pacemaker/switch.crm
-    crm -F configure load update bank.crm
-    crm configure verify && crm_verify --xml-file $CIB_file
-    crm configure show | grep -q 'group branch room address front-socket bank-socket bank front night'
-"""
+# Seconds for which a cut lasts, and for which an old disk is watched. With Pacemaker all takes longer.
+CUT, WATCHED = {"watch": (18, 30), "pacemaker": (40, 70)}, {"watch": 30, "pacemaker": 60}
 DM = ("export DM_DISABLE_UDEV=1; size=$(cat /sys/block/ubdb/size); "
       f"map() {{ dmsetup load {DISK} --table \"$1\" && dmsetup resume {DISK}; }}; ")
 
@@ -49,29 +34,13 @@ def back(pair: Pair, *machines: Machine) -> str:
     return f"back after {started:.0f} s, caught up {took:.0f} s later"
 
 
-def parts(there: Machine, moment: float) -> str:
-    """How long the parts of a takeover took, since a moment in seconds since 1970, by the journal of the machine that took over."""
-    asked = time.time()
-    ahead = float(there.done("date +%s.%N")) - (asked + time.time()) / 2 # its clock, which no server sets
-    found = [moment + ahead]
-    journal = there.done(f"journalctl -o short-unix -u bank-stand-by -u bank-branch --since @{int(found[0])} --no-pager")
-    for text in ("the other is silent", "the disk is this machine's", "the branch is here"):
-        lines = [line for line in journal.splitlines() if text in line and float(line.split()[0]) > found[-1]]
-        if not lines:
-            return "parts not found"
-        found.append(float(lines[0].split()[0]))
-    silent, disk, units = (later - earlier for earlier, later in zip(found, found[1:]))
-    return f"silent {silent:.1f}, fenced {disk:.1f}, units {units:.1f} s"
-
-
 def move(pair: Pair) -> str:
     """The branch is moved by order."""
     here, there = pair.sides()
-    here.done(lines_of("here"))
-    there.done(lines_of("there"))
+    pair.move(here, there)
     pair.await_acknowledged()
     require(pair.serving().name, there.name, "the machine that serves")
-    return f"{here.name} to {there.name}"
+    return f"{here.name} to {there.name}; whole after {pair.await_whole():.0f} s"
 
 
 def power_of_serving(pair: Pair) -> str:
@@ -82,7 +51,7 @@ def power_of_serving(pair: Pair) -> str:
     here.off()
     pair.await_acknowledged()
     require(pair.serving().name, there.name, "the machine that serves")
-    seen = parts(there, moment)
+    seen = pair.parts(there, moment)
     wait_a_while()
     return f"{here.name} off; {seen}; {back(pair, here)}"
 
@@ -105,12 +74,31 @@ def power_without_switch(pair: Pair) -> str:
     wait_a_while()
     here.off()
     since = time.monotonic()
-    time.sleep(WATCHED)
+    time.sleep(WATCHED[pair.way])
     silent(pair, since, "a takeover without the switch")
-    networks.mend(MACHINES)
+    networks.mend(HOSTS)
     pair.await_acknowledged()
     require(pair.serving().name, there.name, "the machine that serves")
     return f"{here.name} off; {back(pair, here)}"
+
+
+def power_without_voice(pair: Pair) -> str:
+    """The machine that serves loses its power while the other reaches neither the switch nor the third. Without a voice that one stops its
+    disk, so once its cable is mended it can't know whether its disk is the newest, and waits for the other."""
+    here, there = pair.sides()
+    networks.plug("office", there.name, False)
+    wait_a_while()
+    here.off()
+    since = time.monotonic()
+    there.await_that("! grep -q ds: /proc/drbd", pair.patience)
+    networks.mend(HOSTS)
+    there.await_that("grep -q ds:Consistent/ /proc/drbd", pair.patience)
+    time.sleep(WATCHED[pair.way])
+    silent(pair, since, f"by {there.name} alone")
+    here.on()
+    here.up()
+    pair.recover()
+    return f"{here.name} off, {there.name} without service, {here.name} back; {pair.serving().name} serves"
 
 
 def silent(pair: Pair, since: float, what: str) -> None:
@@ -136,7 +124,7 @@ def both_old_first(pair: Pair) -> str:
     since = time.monotonic()
     old.on()
     old.up()
-    time.sleep(WATCHED)
+    time.sleep(WATCHED[pair.way])
     silent(pair, since, f"by {old.name}, whose disk is old ({old.state()})")
     newest.on()
     newest.up()
@@ -154,10 +142,25 @@ def both_newest_first(pair: Pair) -> str:
     return f"{old.name} off, {newest.name} off, {newest.name} back and serves alone; {old.name} {back(pair, old)}"
 
 
+def both_newest_waits(pair: Pair) -> str:
+    """Both lose their power one after another; the last that served comes back first, and waits for the other, as it can't know which
+    disk is the newest."""
+    old, newest = both_off(pair)
+    since = time.monotonic()
+    newest.on()
+    newest.up()
+    time.sleep(WATCHED[pair.way])
+    silent(pair, since, f"by {newest.name} alone")
+    old.on()
+    old.up()
+    pair.recover()
+    return f"{old.name} off, {newest.name} off, {newest.name} back without service, {old.name} back"
+
+
 def both_at_once(pair: Pair) -> str:
     """Both lose their power at one moment, and come back."""
     wait_a_while()
-    pair.end()
+    pair.all_off()
     pair.all_on()
     pair.recover()
     return f"both off and back, {pair.serving().name} serves"
@@ -168,7 +171,7 @@ def shut_down(pair: Pair) -> str:
     here, there = pair.sides()
     since = time.monotonic()
     there.sh("systemctl poweroff")
-    end = time.monotonic() + PATIENCE
+    end = time.monotonic() + pair.patience
     while there.is_on():
         if time.monotonic() > end:
             raise Wrong(f"{there.name} does not end")
@@ -183,13 +186,22 @@ def disk_fails(pair: Pair, failed: Machine) -> str:
     failed.done(DM + 'map "0 $size error"')
     pair.await_acknowledged()
     failed.await_that("grep -q ds:Diskless /proc/drbd", 60)
-    if pair.serving() is failed:
-        pair.await_acknowledged()
-        move(pair)
+    leave(pair, failed)
     failed.done(DM + 'map "0 $size linear /dev/ubdb 0" && dd if=/dev/zero of=/dev/ubdb bs=1M count=64 status=none && sync /dev/ubdb')
     failed.done(lines_of("failed"))
     took = pair.await_whole()
     return f"the disk of {failed.name}, replaced by an empty one; the same after {took:.0f} s"
+
+
+def leave(pair: Pair, failed: Machine) -> None:
+    """Moves the branch away from a machine whose disk has failed, if Pacemaker has not done so by itself."""
+    if pair.way == "pacemaker":
+        time.sleep(30)
+        pair.await_primary()
+    if pair.primary() is failed:
+        here, there = pair.sides()
+        pair.move(here, there)
+    pair.await_acknowledged()
 
 
 def night(pair: Pair) -> str:
@@ -198,18 +210,12 @@ def night(pair: Pair) -> str:
     newest = "ls -d /var/lib/bank-copies/*-checked | tail -n 1"
     before = here.sh(newest).stdout
     here.done("systemctl start bank-night")
-    here.await_that(f'[ "$({newest})" != "{before.strip()}" ] && [ -n "$({newest})" ]', PATIENCE)
-    there.done(f"mkdir -p /root/third && cd /root/third && {{ {lines_of('third')}}}")
-    there.done(f"cd /root/third/copies/{here.done(newest).rpartition('/')[2]} && sha256sum -c bank.sha256")
+    here.await_that(f'[ "$({newest})" != "{before.strip()}" ] && [ -n "$({newest})" ]', pair.patience)
+    third = pair.others.get(THIRD, there)
+    third.done(f"export RSYNC_RSH='ssh -i /root/.ssh/reading'; mkdir -p /root/third && cd /root/third && {{ {lines_of('copies')}}}")
+    third.done(f"cd /root/third/copies/{here.done(newest).rpartition('/')[2]} && sha256sum -c bank.sha256")
     pair.await_acknowledged()
-    return f"{here.name} started its bank anew; the copy is at {there.name}"
-
-
-def pacemaker(pair: Pair) -> str:
-    """Pacemaker's form of the pair is read, on the machine that stands by, with the trial's switch; nothing is started."""
-    there = pair.sides()[1]
-    there.done(LOAD, stderr=subprocess.STDOUT)
-    return f"read by crm on {there.name}"
+    return f"{here.name} started its bank anew; the copy is at {third.name}"
 
 
 def disk_of_serving(pair: Pair) -> str:
@@ -220,6 +226,114 @@ def disk_of_serving(pair: Pair) -> str:
 def disk_of_other(pair: Pair) -> str:
     """The disk of the machine that stands by fails."""
     return disk_fails(pair, pair.sides()[1])
+
+
+def third_silent(pair: Pair) -> str:
+    """The third machine is cut off, and then loses its power: the branch serves on."""
+    here, _ = pair.sides()
+    third = pair.others[THIRD]
+    networks.plug("office", THIRD, False)
+    wait_a_while(*CUT[pair.way])
+    pair.await_acknowledged()
+    third.off()
+    networks.mend(HOSTS)
+    wait_a_while()
+    pair.await_acknowledged()
+    require(pair.serving().name, here.name, "the machine that serves")
+    third.on()
+    third.up()
+    pair.await_whole()
+    return f"{here.name} serves on"
+
+
+def hung_bank(pair: Pair) -> str:
+    """The bank's process stands still; it is begun anew where it is, or on the other machine."""
+    here, _ = pair.sides()
+    here.done("kill -STOP $(systemctl show --property MainPID --value bank)")
+    pair.await_acknowledged()
+    pair.await_whole()
+    return f"the bank hung at {here.name}; then {pair.serving().name} serves"
+
+
+def broken_office(pair: Pair) -> str:
+    """The office's settings have a fault, so it does not start: the bank serves on where it is, with its night."""
+    here, _ = pair.sides()
+    here.done("cp -p /etc/bank-office/settings.toml /root && echo '[[' >>/etc/bank-office/settings.toml && systemctl stop bank-office")
+    here.await_that("crm_mon -1 | grep -q 'office start on'", pair.patience)
+    pair.await_acknowledged()
+    require(pair.serving().name, here.name, "the machine that serves")
+    here.done("systemctl is-active -q bank-night.timer && ! systemctl is-active -q bank-office")
+    here.done("cp -p /root/settings.toml /etc/bank-office")
+    here.done(lines_of("mended"))
+    pair.await_whole()
+    return f"{here.name} served on without an office, which came back"
+
+
+def hung_machine(pair: Pair) -> str:
+    """The machine that serves stands still for a while, and goes on: by then it has no power."""
+    here, there = pair.sides()
+    wait_a_while()
+    here.hang(True)
+    try:
+        wait_a_while(*CUT[pair.way])
+        pair.await_acknowledged()
+        require(here.is_on(), False, f"whether {here.name}, which hangs, has power while {there.name} serves")
+    finally:
+        here.hang(False)
+    require(pair.serving().name, there.name, "the machine that serves")
+    return f"{here.name} hung, then was off; {back(pair, here)}"
+
+
+def full_disk(pair: Pair) -> str:
+    """The disk of both is full, so posts are refused; then it has room again, and the bank is begun anew."""
+    here, _ = pair.sides()
+    disk = here.done("findmnt -n -o TARGET /dev/drbd0 | tail -n 1")
+    here.sh(f"dd if=/dev/zero of={disk}/filler bs=64K status=none; sync")
+    end, before = time.monotonic() + pair.patience, pair.book.statuses[503]
+    while pair.book.statuses[503] == before:
+        require(time.monotonic() < end, True, "a post is refused on a full disk")
+        time.sleep(0.5)
+    here.sh("systemctl start bank-disk")
+    here.done(f"rm {disk}/filler; sync")
+    pair.await_acknowledged()
+    require(pair.serving().name, here.name, "the machine that serves")
+    return f"the disk at {here.name} was full, posts were refused"
+
+
+def upgrade(pair: Pair) -> str:
+    """The packages are put in again, first where the branch stands by and then where it serves, while tellers post."""
+    here, there = pair.sides()
+    for each in (there, here):
+        each.done("dpkg -i /srv/brought/*.deb")
+        pair.await_acknowledged()
+    require(pair.serving().name, here.name, "the machine that serves")
+    return f"put in at {there.name} and at {here.name}, which serves"
+
+
+def compared(pair: Pair) -> str:
+    """The disks are compared by the month's unit; a block that differs is found, and mended as the page says."""
+    here, there = pair.sides()
+    here.done("systemctl start bank-verify")
+    there.done("systemctl start bank-verify") # nothing is done there
+    there.done(f"printf different | dd of={DISK} bs=1 seek=$(($(cat /sys/block/drbd0/size) * 512 - 65536)) conv=notrunc status=none; sync")
+    here.sh("systemctl start bank-verify")
+    here.done("systemctl is-failed -q bank-verify")
+    here.done(lines_of("differ"))
+    pair.await_whole()
+    here.done("systemctl start bank-verify")
+    return f"compared at {here.name}: the same; a block spoilt at {there.name}: found, and mended"
+
+
+def beside(pair: Pair) -> str:
+    """Somebody starts the bank by hand where the branch stands by, which its unit refuses."""
+    there = pair.sides()[1]
+    there.sh("systemctl start bank bank-front", timeout=120)
+    time.sleep(5)
+    require(there.sh("systemctl is-active bank").stdout.strip(), "inactive", f"the bank at {there.name}, which stands by")
+    there.sh("systemctl stop bank-front.socket bank-front bank.socket; systemctl reset-failed 'bank*'")
+    pair.await_acknowledged()
+    pair.await_whole()
+    return f"refused at {there.name}"
 
 
 def cut(pair: Pair, disks: str, office: str) -> str:
@@ -233,11 +347,11 @@ def cut(pair: Pair, disks: str, office: str) -> str:
     if office == "apart":
         networks.apart("office", MACHINES, True)
     since = time.monotonic()
-    wait_a_while(*CUT)
+    wait_a_while(*CUT[pair.way])
     if disks and office == "both":
         silent(pair, since, "while nobody reaches the switch")
     seen = ", ".join(f"{it.name} {'on' if it.is_on() else 'off'}" for it in pair.machines.values())
-    networks.mend(MACHINES)
+    networks.mend(HOSTS)
     pair.await_acknowledged()
     pair.all_on()
     pair.await_whole()
@@ -250,14 +364,17 @@ def cutting(disks: str, office: str) -> Callable[[Pair], str]:
 
 
 class Kind(NamedTuple):
-    """A kind of round: its name, what is done, how many are wanted, and how often another machine may begin to serve in it."""
+    """A kind of round: its name, what is done, how many are wanted, how often another machine may begin to serve in it, and of which
+    way to run a pair."""
 
     name: str
     make: Callable[[Pair], str]
     wanted: int
     turns: int
+    ways: tuple[str, ...] = ("watch", "pacemaker")
 
 
+WATCH, PACEMAKER = ("watch",), ("pacemaker",)
 KINDS = (
     Kind("power of the one that serves", power_of_serving, 12, 1),
     Kind("planned move", move, 10, 1),
@@ -268,14 +385,29 @@ KINDS = (
     Kind("cut: the one that serves from all", cutting("here", "here"), 3, 1),
     Kind("disk of the one that serves", disk_of_serving, 3, 1),
     Kind("cut: the other from all", cutting("there", "there"), 3, 0),
-    Kind("power of both, the newest disk first", both_newest_first, 2, 1),
+    Kind("power of both, the newest disk first", both_newest_first, 2, 1, WATCH),
+    Kind("power of both, the newest disk first, which waits", both_newest_waits, 2, 2, PACEMAKER),
     Kind("cut: both from all", cutting("here", "both"), 3, 1),
-    Kind("power of the one that serves, no way to the switch", power_without_switch, 2, 1),
+    Kind("power of the one that serves, no way to the switch", power_without_switch, 2, 1, WATCH),
+    Kind("power of the one that serves, the other without a voice, which waits", power_without_voice, 2, 1, PACEMAKER),
     Kind("cut: the one that serves from the office and the switch", cutting("", "here"), 3, 0),
     Kind("disk of the other", disk_of_other, 2, 0),
     Kind("cut: the other from the office and the switch", cutting("", "there"), 3, 0),
     Kind("power of both at once", both_at_once, 2, 1),
     Kind("the other shut down by order", shut_down, 2, 0),
     Kind("the night, and copies on a third machine", night, 2, 0),
-    Kind("Pacemaker's form is read", pacemaker, 1, 0),
+    Kind("disks compared, a block spoilt", compared, 2, 0),
+    Kind("a full disk", full_disk, 2, 0),
+    Kind("packages put in again", upgrade, 2, 0),
+    Kind("a bank started where the branch stands by", beside, 2, 0),
+    Kind("the third machine", third_silent, 3, 0, PACEMAKER),
+    Kind("a bank that hangs", hung_bank, 2, 1, PACEMAKER),
+    Kind("a machine that hangs", hung_machine, 2, 1, PACEMAKER),
+    Kind("an office that does not start", broken_office, 2, 0, PACEMAKER),
+    Kind("the office, over a year's turn", office_over_a_year, 1, 1, PACEMAKER),
 )
+
+
+def kinds_of(way: str) -> list[Kind]:
+    """The kinds of rounds of a way to run a pair."""
+    return [it for it in KINDS if way in it.ways]

@@ -1,4 +1,4 @@
-"""Tellers who post without a pause, and the book of what they sent and what was acknowledged."""
+"""Tellers who post one after another, and the book of what they sent and what was acknowledged."""
 import contextlib
 import http.client
 import json
@@ -20,28 +20,33 @@ HOST, ADDRESS = "bank.branch", "10.0.0.1"
 WITH_SLIPS, WITHOUT_SLIPS = TELLERS[:3], TELLERS[3:4]
 PROBERS = {"a": TELLERS[4], "b": TELLERS[5]}
 # Seconds between a teller's posts, seconds to wait for a reply, and both at a machine's own address.
-PAUSE, PATIENCE, PROBE_PAUSE, PROBE_PATIENCE = 0.1, 8, 0.25, 2
+PAUSE, PATIENCE, PROBE_PAUSE, PROBE_PATIENCE = 0.25, 8, 0.5, 2
 
 
 class Client:
     """A teller at an address, who keeps a connection and makes another if that was ended."""
 
     def __init__(self, authority: Path, who: str, address: str, seconds: float) -> None:
-        self.address, self.seconds = address, seconds
+        self.who, self.address, self.seconds = who, address, seconds
         self.connection: http.client.HTTPSConnection | None = None
         self.context = ssl.create_default_context(cafile=authority / "front/authority.pem")
         self.context.load_cert_chain(authority / f"tellers/{who}.pem", authority / f"tellers/{who}.key")
+
+    def connect(self) -> http.client.HTTPSConnection:
+        """A new connection."""
+        bare = socket.create_connection((self.address, 443), 2)
+        bare.setsockopt(socket.IPPROTO_TCP, socket.TCP_NODELAY, 1)
+        bare.settimeout(self.seconds)
+        made = http.client.HTTPSConnection(HOST)
+        made.sock = self.context.wrap_socket(bare, server_hostname=HOST)
+        return made
 
     def ask(self, path: str, body: object = None, slip: int | None = None) -> tuple[int, str]:
         """Status and body of the reply; the status is 0 if none came."""
         fields = {"Bank-Session": "1", "Connection": "keep-alive", **({} if slip is None else {"Bank-Slip": str(slip)})}
         try:
             if not self.connection:
-                bare = socket.create_connection((self.address, 443), 2)
-                bare.setsockopt(socket.IPPROTO_TCP, socket.TCP_NODELAY, 1)
-                bare.settimeout(self.seconds)
-                self.connection = http.client.HTTPSConnection(HOST)
-                self.connection.sock = self.context.wrap_socket(bare, server_hostname=HOST)
+                self.connection = self.connect()
             self.connection.request("POST", path, b"" if body is None else json.dumps(body).encode(), fields)
             reply = self.connection.getresponse()
             return reply.status, reply.read().decode()
@@ -78,11 +83,15 @@ class Book:
         self.statuses: Counter[int] = Counter()
         self.count: Counter[int] = Counter()
         for line in path.read_text().splitlines() if path.exists() else ():
-            word, user, amount, *entry = line.split()
+            word, *numbers = line.split()
+            user, amount, *entry = map(int, numbers) if numbers else (0, 0)
             if word == "sent":
-                self.take(int(user), int(amount))
+                self.take(user, amount)
+            elif word == "got":
+                self.give(user, amount, entry[0])
             else:
-                self.give(int(user), int(amount), int(entry[0]))
+                self.got.clear()
+                self.open.clear()
         self.file = os.open(path, os.O_WRONLY | os.O_APPEND | os.O_CREAT, 0o644)
 
     def write(self, *words: object) -> None:
@@ -118,6 +127,18 @@ class Book:
             self.count[user] += 1
             self.moments.append(Acknowledged(time.monotonic(), machine))
             self.write("got", user, amount, entry)
+
+    def begin_anew(self) -> None:
+        """The bank goes on in a new file, whose entries have numbers from 1 on; what is in the old one was compared before."""
+        with self.lock:
+            self.got.clear()
+            self.open.clear()
+            self.write("anew")
+
+    def forget_pauses(self) -> None:
+        """Pauses are looked for from the last acknowledgment on."""
+        with self.lock:
+            self.moments[:] = [it for it in self.moments if it.machine is None][-1:]
 
     def acknowledged_of(self, user: int) -> int:
         """How many posts of a user were acknowledged in this trial."""
@@ -191,7 +212,7 @@ class Load:
         """Has all post."""
         self.going.set()
 
-    def stop(self, seconds: float = 120) -> None:
+    def stop(self, seconds: float) -> None:
         """Has all stop, once what was sent with slips is acknowledged."""
         self.going.clear()
         names = [*WITH_SLIPS, *WITHOUT_SLIPS, *PROBERS.values()]

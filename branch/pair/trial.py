@@ -37,6 +37,7 @@ def make_round(pair: Pair, kind: Kind, file: Path) -> str | None:
         unanswered = pair.book.unanswered(BARE) - before
         found = {(int(user), int(delta)) for _, user, delta in sql(pair.serving(), ENTRIES)} if unanswered else set()
         there = len(unanswered & found)
+        text += "".join(f"; the switch turned {it.name} off" for it in pair.switch.turned_off(since))
     except Exception as error:  # noqa: BLE001 - whatever goes wrong is a round that failed
         result, why = "FAILED", f"{both_served(pair, since, kind)} {reason(error)}".strip()
         text = f"{why} {text} {pair.states()}"
@@ -56,7 +57,7 @@ def look_around(pair: Pair) -> None:
 def rounds_of(pair: Pair, file: Path, count: int, names: tuple[str, ...]) -> Iterable[tuple[str, str | None]]:
     """Makes n rounds of these kinds, or of all, one after another; the name of each, and what is wrong with it."""
     for number in range(count):
-        kind = next_kind(read(file), names)
+        kind = next_kind(read(file), pair.way, names)
         why = make_round(pair, kind, file)
         yield f"{number + 1}, {kind.name}", why
         if why:
