@@ -1,8 +1,11 @@
 """The day book of a branch: entries and cash lines of a day by teller, with sums that have to be those of its proof."""
 import time
+from bisect import bisect_right
+from collections.abc import Mapping, Sequence
 from typing import NamedTuple
 
-from .copies import Copy
+from .copies import PRESENT, Copy
+from .policy import PROCEDURES
 from .store import Refused
 
 POST, LEG, CORRECTION = 1, 2, 3
@@ -43,6 +46,12 @@ class Entry(NamedTuple):
     undone_by_user: int
     balance_after: int
 
+    def what(self) -> str:
+        """What it is called."""
+        if self.form == POST:
+            return "deposit" if self.delta >= 0 else "withdrawal"
+        return FORMS[self.form]
+
     def has_cash(self) -> bool:
         """Whether a cash line goes with it: with a post, and with the correction of one."""
         return self.partner == 0
@@ -73,7 +82,8 @@ class Sums(NamedTuple):
 
 
 class DayBook(NamedTuple):
-    """A day of a branch. `faults` says what of its sums is not as the bank's own."""
+    """A day of a branch. `faults` says what of its sums is not as the bank's own, `year` begins the numbers of its documents,
+    `home_days` has the day of the home's branch for each entry at an account of another, and `file` is the copy that has the day."""
 
     branch: int
     day: int
@@ -83,6 +93,13 @@ class DayBook(NamedTuple):
     before: Sums
     after: Sums
     faults: list[str]
+    year: str = ""
+    home_days: Mapping[int, int] = {}
+    file: str = PRESENT
+
+    def document(self, number: int, kind: str = "") -> str:
+        """The number of a document: that of an entry or a cash line, with year and branch, as numbers begin anew each year."""
+        return f"{self.year or PRESENT}-{self.branch}-{kind}{number}"
 
     def tellers(self) -> list[int]:
         """All tellers who have an entry or a cash line."""
@@ -145,7 +162,37 @@ def faults_of(copy: Copy, branch: int, day: int, after: Sums, is_closed: bool) -
     return [f"{name}: {found[name]} by the rows, {kept[name]} by the proof" for name in kept.keys() if found[name] != kept[name]]
 
 
-def day_book(copy: Copy, branch: int, day: int) -> DayBook:
+def first_moment(copy: Copy) -> int | None:
+    """The moment of the first entry or cash line of a file."""
+    query = "SELECT min(moment) AS moment FROM branches JOIN {0} ON {0}.branch = branches.branch AND {0}.number = 1"
+    firsts = [row["moment"] for it in ("entries", "lines") if (row := copy.row(query.format(it)))]
+    return min((int(it) for it in firsts if it is not None), default=None)
+
+
+def years_of(copies: Sequence[Copy]) -> list[str]:
+    """The year of each file, by its first entry or cash line, whatever the file is called. A second file of a year has a letter."""
+    years = [time.localtime(first_moment(it) or it.made or time.time()).tm_year for it in copies]
+    return [f"{year}{' bcdefghijklmnopqrstuvwxyz'[years[:at].count(year)].strip()}" for at, year in enumerate(years)]
+
+
+def home_days_of(copy: Copy, entries: list[Entry]) -> dict[int, int]:
+    """Of each entry at an account of another branch, the day that was that branch's: of the last row there by then."""
+    starts = {
+        home: copy.rows(
+            "SELECT min(moment) AS moment, day FROM (SELECT moment, day FROM entries WHERE branch = ?1 "
+            "UNION ALL SELECT moment, day FROM lines WHERE branch = ?1) GROUP BY day ORDER BY day",
+            home,
+        )
+        for home in {it.home for it in entries if it.home != it.branch}
+    }
+    found = dict[int, int]()
+    for it in entries:
+        if rows := starts.get(it.home):
+            found[it.number] = int(rows[max(bisect_right([row["moment"] for row in rows], it.moment) - 1, 0)]["day"])
+    return found
+
+
+def day_book(copy: Copy, branch: int, day: int, year: str = "") -> DayBook:
     """The book of a day."""
     present = copy.row("SELECT day FROM branches WHERE branch = ?", branch)
     if present is None:
@@ -155,7 +202,28 @@ def day_book(copy: Copy, branch: int, day: int) -> DayBook:
     is_closed = day < present["day"]
     before, after = sums_of(copy, branch, day - 1), sums_of(copy, branch, day)
     faults = faults_of(copy, branch, day, after, is_closed)
-    return DayBook(branch, day, is_closed, entries_of(copy, branch, day), lines_of(copy, branch, day), before, after, faults)
+    entries = entries_of(copy, branch, day)
+    homes = home_days_of(copy, entries)
+    return DayBook(branch, day, is_closed, entries, lines_of(copy, branch, day), before, after, faults, year, homes, copy.name)
+
+
+class Release(NamedTuple):
+    """A release that was given on a day: its number, who gave it, for whom and what, and whether it was used."""
+
+    number: int
+    giver: int
+    user: int
+    procedure: str
+    used: bool
+
+
+def releases_of(copies: list[Copy], branch: int, day: int) -> list[Release]:
+    """The releases of a day of a branch. Each year's file has those of the years before, too, so the newest has all."""
+    rows = copies[-1].rows(
+        "SELECT number, giver, user_no, form, used FROM releases WHERE branch = ? AND day = ? ORDER BY user_no, number", branch, day
+    )
+    names = {number: name for name, number in PROCEDURES.items()}
+    return [Release(it["number"], it["giver"], it["user_no"], names[it["form"]], bool(it["used"])) for it in rows]
 
 
 class Day(NamedTuple):
@@ -194,7 +262,7 @@ def day_book_of(copies: list[Copy], branch: int, day: int) -> DayBook:
     spans = spans_of(copies, branch)
     for span in spans:
         if span.first <= day <= span.last:
-            return day_book(span.copy, branch, day)
+            return day_book(span.copy, branch, day, years_of(copies)[copies.index(span.copy)])
     raise Refused(f"Branch {branch} has days 1 to {spans[-1].last}")
 
 

@@ -1,12 +1,18 @@
 """A day of a branch as an account statement of ISO 20022, camt.053.001.08: the elements of office/schemas, in their order."""
 import datetime
+from collections.abc import Mapping
+from typing import NamedTuple
 from xml.etree import ElementTree
 
-from .books import DayBook, Entry
+from .books import DayBook, Entry, date_of
+from .languages import Language, language_of
 from .ledger import postings_of
 from .money import plain
+from .reasons import Key, Reason
 
 NAMESPACE = "urn:iso:std:iso:20022:tech:xsd:camt.053.001.08"
+ENGLISH = language_of("en")
+NO_REASONS: Mapping[Key, Reason] = {}
 
 
 def part(above: ElementTree.Element, name: str, text: str = "", **attributes: str) -> ElementTree.Element:
@@ -54,35 +60,59 @@ def summary(above: ElementTree.Element, entries: list[Entry]) -> None:
         part(total, "Sum", plain(abs(sum(it.delta for it in these))))
 
 
-def entry_element(above: ElementTree.Element, entry: Entry, currency: str, date: str) -> None:
-    """One entry. What it is stands as a code of the bank's own."""
-    found = part(above, "Ntry")
-    part(found, "NtryRef", f"{entry.branch}-{entry.number}")
-    amount(found, entry.delta, currency)
+class Day(NamedTuple):
+    """A day, in which currency and language it is written, and why a run made an entry."""
+
+    book: DayBook
+    currency: str
+    language: Language
+    reasons: Mapping[Key, Reason]
+
+    def reason(self, entry: Entry) -> Reason | None:
+        """Why a run made an entry, if one did."""
+        return self.reasons.get((self.book.file, entry.branch, entry.number))
+
+
+def text_of(entry: Entry, day: Day) -> str:
+    """What an entry is, in text, as importers show it: of one that a run made its own text, interest or a fee."""
+    say, reason = day.language.say, day.reason(entry)
+    what = day.language.told(reason.why) if reason else say(entry.what())
+    text = say("{what}, account {account}, teller {teller}, user {user}", what=what, **{it: getattr(entry, it) for it in ("account", "teller", "user")})
+    return text + (", " + say("corrects {entry}", entry=f"{entry.branch}-{entry.undoes}") if entry.undoes else "")
+
+
+def entry_element(above: ElementTree.Element, entry: Entry, day: Day) -> None:
+    """One entry. What it is stands as a code of the bank's own; the customer is the other side. Its dates are the bank's local ones, as an
+    importer compares them with other dates; what a run made is valued at the last day of its period."""
+    found, book, reason = part(above, "Ntry"), day.book, day.reason(entry)
+    part(found, "NtryRef", book.document(entry.number))
+    amount(found, entry.delta, day.currency)
     if entry.undoes:
         part(found, "RvslInd", "true")
     path(found, "Sts/Cd", "BOOK")
-    path(found, "BookgDt/DtTm", stamp(entry.moment))
-    path(found, "ValDt/Dt", date)
-    path(found, "BkTxCd/Prtry/Cd", {1: "POST", 2: "TRANSFER", 3: "CORRECTION"}[entry.form])
+    path(found, "BookgDt/Dt", date_of(entry.moment))
+    path(found, "ValDt/Dt", reason.last if reason else date_of(entry.moment))
+    part(found, "AcctSvcrRef", book.document(entry.number))
+    path(found, "BkTxCd/Prtry/Cd", entry.what().upper())
     details = part(part(found, "NtryDtls"), "TxDtls")
-    path(details, "Refs/InstrId", f"{entry.branch}-{min(entry.number, entry.partner or entry.number)}")
-    path(details, "RltdPties/Cdtr/Pty/Nm" if entry.delta >= 0 else "RltdPties/Dbtr/Pty/Nm", f"ACCOUNT {entry.account}")
-    part(
-        details,
-        "AddtlTxInf",
-        f"teller {entry.teller}, user {entry.user}" + (f", corrects {entry.branch}-{entry.undoes}" * bool(entry.undoes)),
-    )
+    path(details, "Refs/InstrId", book.document(min(entry.number, entry.partner or entry.number)))
+    side = "RltdPties/Dbtr/Pty/Nm" if entry.delta >= 0 else "RltdPties/Cdtr/Pty/Nm"
+    path(details, side, day.language.say("Account {account}", account=entry.account).upper())
+    for above_it, name in ((details, "AddtlTxInf"), (found, "AddtlNtryInf")):
+        part(above_it, name, text_of(entry, day))
 
 
-def statement_xml(book: DayBook, currency: str, made: int, date: str) -> str:
+def statement_xml(
+    book: DayBook, currency: str, made: int, date: str, language: Language = ENGLISH, reasons: Mapping[Key, Reason] = NO_REASONS
+) -> str:
     """The document of a day that agrees with its proof, else a refusal."""
     postings_of(book)
+    day = Day(book, currency, language, reasons)
     document = ElementTree.Element("Document", {"xmlns": NAMESPACE})
     report = part(document, "BkToCstmrStmt")
     name = f"BRANCH{book.branch}-DAY{book.day}"
     head = part(report, "GrpHdr")
-    part(head, "MsgId", f"{name}-{made}")
+    part(head, "MsgId", f"{book.branch}-{book.day}-{made}")
     part(head, "CreDtTm", stamp(made))
     found = part(report, "Stmt")
     part(found, "Id", name)
@@ -95,7 +125,7 @@ def statement_xml(book: DayBook, currency: str, made: int, date: str) -> str:
     balance(found, "CLBD", book.after.balance, currency, date)
     summary(found, book.entries)
     for entry in book.entries:
-        entry_element(found, entry, currency, date)
+        entry_element(found, entry, day)
     ElementTree.indent(document)
     return ElementTree.tostring(document, "unicode", xml_declaration=False).join(
         ('<?xml version="1.0" encoding="UTF-8"?>\n', "\n")

@@ -124,6 +124,7 @@ def carry_out(found: sqlite3.Connection, bank: Asked, run: int) -> tuple[int, in
     drawer = {"branch": row["branch"], "teller": row["teller"]}
     # A transfer needs a drawer that its user holds. It has no cash. If it is on already, the bank refuses this.
     bank.ask("drawer-on", {**drawer, "cash": 0})
+    runs.note_begun(found, run)
     while (line := runs.next_waiting(found, run)) is not None:
         body = {**drawer, "amount": line.amount, "source": line.source, "target": line.target}
         reply = bank.ask("transfer", body, line.slip)

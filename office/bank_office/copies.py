@@ -1,7 +1,7 @@
 """The copies that the bank's night hands to the office: the newest one that was checked, and the files of closed years.
 
 They are opened for reading alone, and as files that nobody changes. A copy beside which a log stands is refused, as without the
-log it is not the bank.
+log it is not the bank. Which year is before which goes by the bank's days, and not by names.
 """
 import csv
 import sqlite3
@@ -11,19 +11,30 @@ from pathlib import Path
 from typing import NamedTuple
 from urllib.parse import quote
 
+from .since import Since, since_of
 from .store import Refused
 
 SCHEMA_VERSION = 3
-PRESENT = "present"
+PRESENT, RIGHTS = "present", "rights"
 LOGS = ("-wal", "-journal", "-shm")
+# Each night has a copy. A day later, and two hours for the night itself, one that is still the newest says that a night failed, or was not.
+LATE_SECONDS = 26 * 3_600
 
 
 class Copy(NamedTuple):
-    """One copy of the bank, open. `made` is the moment of a copy of the present bank; a year's name is its folder's."""
+    """One copy of the bank, open. `made` is the moment of a copy of the present bank, `exactly` with its fraction, and `since` what its
+    policy has lost from then on; a year's name has the dates of its first and last entry."""
 
     name: str
     made: int
     bank: sqlite3.Connection
+    since: Since = Since()
+    exactly: float = 0.0
+
+    @property
+    def version(self) -> int:
+        """How often the policy was changed."""
+        return int(self.bank.execute("SELECT policy FROM bank").fetchone()[0])
 
     def rows(self, text: str, *given: object) -> list[sqlite3.Row]:
         """What a SELECT finds."""
@@ -36,8 +47,8 @@ class Copy(NamedTuple):
 
 
 @contextmanager
-def opened_copy(file: Path, name: str) -> Iterator[Copy]:
-    """A file of a bank, for reading."""
+def opened_copy(file: Path, name: str, rights: Path | None = None) -> Iterator[Copy]:
+    """A file of a bank, for reading; of the present one with the rights that ended since."""
     if not file.is_file():
         raise Refused(f"There is no copy of the bank yet ({name}): it comes with the bank's night")
     if any(file.with_name(file.name + end).exists() for end in LOGS[:2]):
@@ -45,7 +56,9 @@ def opened_copy(file: Path, name: str) -> Iterator[Copy]:
     bank = sqlite3.connect(f"file:{quote(str(file))}?mode=ro&immutable=1", uri=True)
     try:
         bank.row_factory = sqlite3.Row
-        copy = Copy(name, int(file.stat().st_mtime), bank)
+        exactly = file.stat().st_mtime
+        made = int(exactly)
+        copy = Copy(name, made, bank, since_of(rights, made) if rights else Since(), exactly)
         found = copy.row("SELECT version FROM bank")
         if found is None or found["version"] != SCHEMA_VERSION:
             raise Refused(f"The copy {name} is of another schema version")
@@ -56,32 +69,50 @@ def opened_copy(file: Path, name: str) -> Iterator[Copy]:
         bank.close()
 
 
+def days_of(file: Path) -> int:
+    """How many days the branches of a file have together: of a later file as many or more."""
+    with opened_copy(file, file.name) as copy:
+        found = copy.row("SELECT coalesce(sum(day), 0) AS days FROM branches")
+        return int(found["days"]) if found else 0
+
+
 class Copies:
-    """The folder of the copies: `present`, `badges.csv`, and `years` with a file per closed year."""
+    """The folder of the copies: `present`, `badges.csv`, `rights` that ended since, and `years` with a file per closed year. The first
+    and the last lead to what was handed over at once."""
 
     def __init__(self, folder: Path) -> None:
         self.folder = folder
 
     def present(self) -> AbstractContextManager[Copy]:
         """The newest copy that was checked."""
-        return opened_copy(self.folder / PRESENT, PRESENT)
+        return opened_copy(self.folder / PRESENT, PRESENT, self.folder / RIGHTS)
 
     def has_present(self) -> bool:
         """Whether there is a copy yet."""
         return (self.folder / PRESENT).is_file()
 
-    def years(self) -> list[Path]:
-        """The files of closed years, the oldest first."""
-        return sorted(it for it in (self.folder / "years").glob("[0-9]*") if it.is_file() and not it.name.endswith(LOGS))
+    def late_since(self, moment: int) -> int | None:
+        """When the newest copy was made, if at this moment it is older than the last night."""
+        if not self.has_present():
+            return None
+        made = int((self.folder / PRESENT).stat().st_mtime)
+        return made if moment - made > LATE_SECONDS else None
 
     def all(self) -> list[AbstractContextManager[Copy]]:
-        """Every file of the bank, in the order of time."""
-        return [*(opened_copy(it, it.name) for it in self.years()), self.present()]
+        """Every file of the bank, in the order of time, as they were handed over together."""
+        present = (self.folder / PRESENT).resolve()
+        years = [it for it in (present.parent / "years").glob("[0-9]*") if it.is_file() and not it.name.endswith(LOGS)]
+        years.sort(key=lambda it: (days_of(it), it.name))
+        return [*(opened_copy(it, it.name) for it in years), opened_copy(present, PRESENT, self.folder / RIGHTS)]
+
+    def badges(self) -> dict[str, int]:
+        """The bank's list of badges, each with its user's number."""
+        try:
+            with open(self.folder / "badges.csv", encoding="utf-8-sig", newline="") as file:
+                return {row["badge"]: int(row["user"]) for row in csv.DictReader(file)}
+        except FileNotFoundError:
+            return {}
 
     def user_of(self, badge: str) -> int | None:
         """The number of the bank's user of a badge."""
-        try:
-            with open(self.folder / "badges.csv", encoding="utf-8-sig", newline="") as file:
-                return next((int(row["user"]) for row in csv.DictReader(file) if row["badge"] == badge), None)
-        except FileNotFoundError:
-            return None
+        return self.badges().get(badge)

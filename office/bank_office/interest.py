@@ -9,13 +9,12 @@ from typing import NamedTuple
 
 from .copies import Copy
 from .money import half_up, parts_of, plain
+from .periods import begins
 from .settings import Scheme
-from .statements import Chain, begins, chain_of
-from .store import Refused
+from .statements import Chain, chain_of
 
 MILLION = 1_000_000
 DAYS_PER_YEAR = 365
-MOST_DAYS = 3_660
 
 
 class Transfer(NamedTuple):
@@ -57,16 +56,6 @@ def in_parts(account: int, source: int, target: int, cents: int, why: str) -> li
     """An amount as transfers, each of which one entry can move."""
     parts = parts_of(cents)
     return [Transfer(account, number, len(parts), source, target, amount, why) for number, amount in enumerate(parts, 1)]
-
-
-def require_period(copies: list[Copy], first: datetime.date, last: datetime.date) -> None:
-    """Refuses a period that isn't over by the newest copy, or that is too long."""
-    if not 0 <= (last - first).days < MOST_DAYS:
-        raise Refused(f"{first} to {last} is no period: at most {MOST_DAYS} days")
-    if copies[-1].made < begins(last + datetime.timedelta(1)):
-        raise Refused(
-            f"The newest copy is of {datetime.datetime.fromtimestamp(copies[-1].made)}: a period ends before its copy is made"
-        )
 
 
 def transfers_of(copies: list[Copy], scheme: Scheme, first: datetime.date, last: datetime.date) -> list[Transfer]:

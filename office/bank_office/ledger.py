@@ -3,14 +3,16 @@
 An entry at an account of another branch is booked between the two: the branch where it stands owes it to the account's home, or
 has it to claim, and the home's books have the opposite beside the customer's account.
 """
+import datetime
 from typing import NamedTuple
 
 from .books import CashLine, DIFFERENCE, DRAWER_OFF, DayBook, Entry, WITH_ENTRY
-from .money import plain
+from .languages import Language, language_of
+from .money import plain, units
 from .sheets import sheet_text
 from .store import Refused
 
-HEADING = ("transaction", "branch", "day", "moment", "user", "ledger", "debit", "credit", "text")
+HEADING = ("transaction", "date", "branch", "day", "moment", "user", "ledger", "debit", "credit", "text")
 
 
 class Posting(NamedTuple):
@@ -26,12 +28,13 @@ class Posting(NamedTuple):
     text: str
 
 
-def customer_of(transaction: str, entry: Entry) -> list[Posting]:
-    """The customer's side of an entry: a credit where the balance grows; through the branches, where they are two."""
+def customer_of(transaction: str, entry: Entry, home_day: int) -> list[Posting]:
+    """The customer's side of an entry: a credit where the balance grows; through the branches, where they are two, each on its own day."""
     text = f"entry {entry.branch}/{entry.number}" + (f", corrects {entry.branch}/{entry.undoes}" if entry.undoes else "")
 
     def posting(branch: int, ledger: str, cents: int) -> Posting:
-        return Posting(transaction, branch, entry.day, entry.moment, entry.user, ledger, cents, text)
+        day = entry.day if branch == entry.branch else home_day
+        return Posting(transaction, branch, day, entry.moment, entry.user, ledger, cents, text)
 
     if entry.home == entry.branch:
         return [posting(entry.branch, f"customer {entry.account}", -entry.delta)]
@@ -58,8 +61,8 @@ def entries_in(book: DayBook) -> list[Posting]:
     found: list[Posting] = []
     for entry in book.entries:
         number = min(entry.number, entry.partner) if entry.partner else entry.number
-        transaction = f"{book.branch}-E{number}"
-        found += customer_of(transaction, entry)
+        transaction = book.document(number, "E")
+        found += customer_of(transaction, entry, book.home_days.get(entry.number, entry.day))
         if not entry.has_cash():
             continue
         line = next(cash, None)
@@ -84,14 +87,14 @@ def cash_in(book: DayBook) -> list[Posting]:
         if line.form == WITH_ENTRY:
             continue
         if line.form == DIFFERENCE:
-            transaction = f"{book.branch}-C{line.number}"
+            transaction = book.document(line.number, "C")
             other = Posting(transaction, line.branch, line.day, line.moment, line.user, "differences", -line.amount, "difference")
             found += [cash_of(transaction, line, "difference"), other]
         elif pair is None:
             pair = line
         else:
             text = "drawer off" if line.form == DRAWER_OFF else "drawer on" if line.form == 2 else "moved"
-            found += [cash_of(f"{book.branch}-C{pair.number}", it, text) for it in (pair, line)]
+            found += [cash_of(book.document(pair.number, "C"), it, text) for it in (pair, line)]
             pair = None
     if pair is not None:
         raise Refused(f"Branch {book.branch}, cash line {pair.number} has no other")
@@ -135,22 +138,24 @@ def postings_of(book: DayBook) -> list[Posting]:
     return found
 
 
-def ledger_text(book: DayBook) -> str:
+def ledger_text(book: DayBook, language: Language = language_of("en")) -> str:
     """The postings as CSV, with debit and credit in two columns."""
     return sheet_text(
         HEADING,
         [
             (
                 it.transaction,
+                datetime.date.fromtimestamp(it.moment),
                 it.branch,
                 it.day,
-                it.moment,
+                language.moment(it.moment),
                 it.user,
-                it.ledger,
-                plain(it.cents) if it.cents >= 0 else "",
-                plain(-it.cents) if it.cents < 0 else "",
-                it.text,
+                language.told(it.ledger),
+                units(it.cents) if it.cents >= 0 else "",
+                units(-it.cents) if it.cents < 0 else "",
+                language.told(it.text),
             )
             for it in postings_of(book)
         ],
+        language,
     )

@@ -21,11 +21,6 @@ def units(cents: int) -> Decimal:
     return Decimal(plain(cents))
 
 
-def shown(cents: int) -> str:
-    """Cents as units for people: 125000 is 1,250.00."""
-    return f"{'-' if cents < 0 else ''}{abs(cents) // 100:,}.{abs(cents) % 100:02}"
-
-
 def cents_of(text: str) -> int:
     """The cents of a text as `plain` writes it, or without places."""
     found = AMOUNT.fullmatch(text.strip())

@@ -6,10 +6,10 @@ from typing import Any
 
 from flask import Blueprint, Response, jsonify, redirect, render_template, request
 
-from . import register, sheets
+from . import customers, register, sheets
 from .register import Holder, Holding, User
 from .store import Refused, changing, changes_of
-from .web import Forbidden, attached, desk, missing, number_of
+from .web import Forbidden, asked_object, attached, desk, language, missing, number_of
 
 pages = Blueprint("register", __name__)
 MOST_NAMES = 100
@@ -29,10 +29,10 @@ def names_on(accounts: set[int]) -> dict[int, list[str]]:
     return register.names_of_accounts(here.found, [it for it in accounts if here.sees_account(it)])
 
 
-@pages.get("/")
+@pages.route("/", methods=["GET", "POST"])
 def home() -> str:
-    """The search, and what it finds."""
-    text = request.args.get("q", "").strip()
+    """The search, and what it finds. Names are in no address, as addresses are kept for years."""
+    text = request.form.get("q", "").strip()
     found, fault = list[tuple[Holder, list[Holding]]](), ""
     if text:
         try:
@@ -42,15 +42,13 @@ def home() -> str:
     return render_template("home.html", q=text, found=found, fault=fault)
 
 
-@pages.get("/holders/<int:number>")
+@pages.get("/holders/<number:number>")
 def holder(number: int) -> str:
     """One holder: a keeper sees and changes all, others see the name and the accounts that they may see."""
     here = desk()
     it = register.holder_of(here.found, number)
-    if it is None and not here.is_keeper:
-        missing()
-    if it is not None and not visible([it]):
-        raise Forbidden("The bank shows you no account of this holder")
+    if not here.is_keeper and (it is None or not visible([it])):  # which of the two is nobody else's matter
+        raise Forbidden("The bank shows you no account of such a holder")
     own = visible([it])[0][1] if it else []
     changes = changes_of(here.found, "holder", str(number)) if here.is_keeper else []
     return render_template(
@@ -58,17 +56,18 @@ def holder(number: int) -> str:
     )
 
 
-@pages.post("/holders/<int:number>")
+@pages.post("/holders/<number:number>")
 def keep_holder(number: int) -> Any:
     """Keeps what was typed of a holder."""
     desk().require_keeper()
-    texts = {name: request.form.get(name, "").replace("\r\n", "\n").strip() for name in Holder._fields[1:]}
+    texts = {name: request.form.get(name, "").replace("\r\n", "\n").strip() for name in Holder._fields[1:-1]}
     with changing(desk().found):
-        register.put_holder(desk().found, desk().badge, Holder(number, **texts))
+        old = register.holder_of(desk().found, number)
+        register.put_holder(desk().found, desk().badge, Holder(number, **texts, proposer=old.proposer if old else ""))
     return redirect(f"/office/holders/{number}", 303)
 
 
-@pages.post("/holders/<int:number>/accounts")
+@pages.post("/holders/<number:number>/accounts")
 def keep_holding(number: int) -> Any:
     """Says that an account is a holder's, or no longer."""
     desk().require_keeper()
@@ -78,7 +77,7 @@ def keep_holding(number: int) -> Any:
     return redirect(f"/office/holders/{number}", 303)
 
 
-@pages.get("/accounts/<int:account>")
+@pages.get("/accounts/<number:account>")
 def account_page(account: int) -> str:
     """Whose an account is."""
     if not desk().sees_account(account):
@@ -119,7 +118,7 @@ def export(name: str) -> Response:
     desk().require_keeper()
     if name not in sheets.SHEETS:
         missing()
-    return attached(sheets.exported(desk().found, name), f"{name}.csv")
+    return attached(sheets.exported(desk().found, name, language()), f"{name}.csv")
 
 
 @pages.post("/sheets")
@@ -137,7 +136,7 @@ def import_sheet() -> Any:
 def all_changes() -> str:
     """The last changes of the register."""
     desk().require_keeper()
-    before = request.args.get("before", type=int) or 1 << 62
+    before = number_of(request.args["before"], "before") if "before" in request.args else 1 << 62
     rows = desk().found.execute("SELECT * FROM changes WHERE change < ? ORDER BY change DESC LIMIT 200", (before,)).fetchall()
     return render_template("changes.html", changes=rows)
 
@@ -149,7 +148,9 @@ def export_changes() -> Response:
     rows = desk().found.execute(
         "SELECT change, moment, badge, what, row, coalesce(old, ''), coalesce(new, '') FROM changes ORDER BY change"
     )
-    return attached(sheets.sheet_text(("change", "moment", "badge", "what", "row", "old", "new"), rows), "changes.csv")
+    moments = [(change, language().moment(moment), *rest) for change, moment, *rest in rows]
+    heading = ("change", "moment", "badge", "what", "row", "old", "new")
+    return attached(sheets.sheet_text(heading, moments, language()), "changes.csv")
 
 
 # ---- for the teller's page
@@ -174,13 +175,16 @@ def names_answer() -> Response:
     )
 
 
-@pages.get("/api/search")
+@pages.post("/api/search")
 def search_answer() -> Response:
     """The holders whom a search finds, each with the accounts that the user may see."""
-    found = visible(register.search(desk().found, request.args.get("q", "")))
+    text = asked_object().get("q")
+    if not isinstance(text, str):
+        raise Refused("q is a text")
+    found = visible(register.search(desk().found, text))
     return jsonify(
         holders=[
-            {"holder": it.holder, "name": it.name, "accounts": [{"account": one.account, "may": one.may} for one in own]}
+            {**customers.shown(it), "accounts": [{"account": one.account, "may": one.may} for one in own]}
             for it, own in found
         ]
     )

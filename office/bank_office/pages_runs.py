@@ -3,17 +3,18 @@ from typing import Any
 
 from flask import Blueprint, redirect, render_template, request
 
-from . import register, runs
+from . import rests, runs
 from .pages_books import date_of
 from .store import Refused
-from .web import Forbidden, desk, number_of
+from .web import Forbidden, number_of
+from .web_runs import runs_desk
 
 pages = Blueprint("runs", __name__)
 
 
 def require_approver() -> None:
     """Refuses all who don't approve runs."""
-    if not desk().is_approver:
+    if not runs_desk().is_approver:
         raise Forbidden("You approve no runs")
 
 
@@ -22,7 +23,7 @@ def list_page() -> str:
     """All runs, the newest first, and the form of a new one."""
     require_approver()
     rows = (
-        desk()
+        runs_desk()
         .found.execute(
             "SELECT runs.*, count(*) AS lines, sum(amount) AS amount, sum(run_lines.state = 'done') AS done, "
             "sum(run_lines.state = 'refused') AS refused FROM runs JOIN run_lines USING (run) GROUP BY run ORDER BY run DESC"
@@ -36,7 +37,7 @@ def list_page() -> str:
 def propose() -> Any:
     """Computes a run."""
     require_approver()
-    here, kind = desk(), request.form.get("kind", "")
+    here, kind = runs_desk(), request.form.get("kind", "")
     if kind not in runs.KINDS:
         raise Refused("A run is of interest or of a fee")
     period = date_of(request.form.get("first"), "first"), date_of(request.form.get("last"), "last")
@@ -45,22 +46,28 @@ def propose() -> Any:
     return redirect(f"/office/runs/{run}", 303)
 
 
-@pages.get("/runs/<int:run>")
+@pages.get("/runs/<number:run>")
 def run_page(run: int) -> str:
     """One run with its transfers."""
     require_approver()
-    here = desk()
+    here = runs_desk()
     row, lines = runs.run_of(here.found, run), runs.lines_of(here.found, run)
-    names = register.names_of_accounts(here.found, {it.account for it in lines})
-    return render_template("run.html", run=row, lines=lines, approvals=runs.approvals_of(here.found, run), names=names)
+    names = here.names_of(sorted({it.account for it in lines}))
+    approvals, left, acts = runs.approvals_of(here.found, run), rests.rests_of(lines), runs.acts_on(here.found, run)
+    return render_template("run.html", run=row, lines=lines, approvals=approvals, names=names, rests=left, acts=acts)
 
 
-@pages.post("/runs/<int:run>/<act>")
+@pages.post("/runs/<number:run>/<act>")
 def act_on(run: int, act: str) -> Any:
     """Approves or withdraws a run, or has what was refused sent again."""
     require_approver()
-    acts = {"approve": runs.approve, "withdraw": runs.withdraw, "again": runs.try_refused_again}
-    if act not in acts:
+    here = runs_desk()
+    if act == "approve":
+        runs.approve(here.found, here.settings, here.badge, here.user, run)
+    elif act == "withdraw":
+        runs.withdraw(here.found, here.settings, here.badge, run)
+    elif act == "again":
+        runs.try_refused_again(here.found, here.settings, here.badge, run)
+    else:
         raise Refused("A run is approved or withdrawn")
-    acts[act](desk().found, desk().settings, desk().badge, run)
     return redirect(f"/office/runs/{run}", 303)

@@ -44,12 +44,17 @@ Item = tuple[Kind, int]
 
 def is_active(copy: Copy, user: int) -> bool:
     """Whether a user is there and not suspended."""
-    return copy.row("SELECT 1 FROM users WHERE user_no = ? AND suspended = 0", user) is not None
+    return user not in copy.since.suspended and copy.row("SELECT 1 FROM users WHERE user_no = ? AND suspended = 0", user) is not None
 
 
 def is_suspended(copy: Copy, user: int) -> bool:
     """Whether a user is suspended; one who is not there yet is not."""
-    return copy.row("SELECT 1 FROM users WHERE user_no = ? AND suspended = 1", user) is not None
+    return user in copy.since.suspended or copy.row("SELECT 1 FROM users WHERE user_no = ? AND suspended = 1", user) is not None
+
+
+def is_officer(copy: Copy, user: int) -> bool:
+    """Whether a user is an officer, to whom the bank lists its policy."""
+    return is_active(copy, user) and copy.row("SELECT 1 FROM users WHERE user_no = ? AND officer = 1", user) is not None
 
 
 def holds(copy: Copy, set_no: int, item: Item) -> bool:
@@ -57,32 +62,30 @@ def holds(copy: Copy, set_no: int, item: Item) -> bool:
     return copy.row("SELECT 1 FROM members WHERE set_no = ? AND kind = ? AND ? BETWEEN low AND high", set_no, *item) is not None
 
 
-def may(copy: Copy, user: int, procedure: str, items: Iterable[Item], moment: int, amount: int = 0) -> bool:
-    """Whether one triple of a user that is valid at a moment holds all items, up to an amount."""
-    wanted = list(items)
-    sets = copy.rows(
+def sets_of(copy: Copy, user: int, procedure: str, moment: int, amount: int = 0) -> list[int]:
+    """The sets on which a user has a triple for a procedure that is valid at a moment, up to an amount."""
+    rows = copy.rows(
         "SELECT set_no FROM grants WHERE user_no = ? AND procedure = ? AND ceiling >= ? AND ? BETWEEN first_at AND last_at",
         user,
         PROCEDURES[procedure],
         amount,
         moment,
     )
-    return is_active(copy, user) and any(all(holds(copy, it["set_no"], item) for item in wanted) for it in sets)
+    found = [int(it["set_no"]) for it in rows] if is_active(copy, user) else []
+    return [it for it in found if copy.since.leaves((user, procedure, it), amount, moment)]
+
+
+def may(copy: Copy, user: int, procedure: str, items: Iterable[Item], moment: int, amount: int = 0) -> bool:
+    """Whether one triple of a user that is valid at a moment holds all items, up to an amount."""
+    wanted = list(items)
+    return any(all(holds(copy, it, item) for item in wanted) for it in sets_of(copy, user, procedure, moment, amount))
 
 
 def accounts_seen(copy: Copy, user: int, moment: int) -> list[tuple[int, int]]:
     """The ranges of accounts that the bank lists to a user, or whose balance or statement it shows to them."""
-    if not is_active(copy, user):
-        return []
-    shown = [PROCEDURES[it] for it in ("accounts", "balance", "statement")]
-    rows = copy.rows(
-        "SELECT DISTINCT low, high FROM grants JOIN members USING (set_no) WHERE user_no = ? AND kind = 1 "
-        "AND procedure IN (?, ?, ?) AND ? BETWEEN first_at AND last_at",
-        user,
-        *shown,
-        moment,
-    )
-    return [(it["low"], it["high"]) for it in rows]
+    sets = {one for name in ("accounts", "balance", "statement") for one in sets_of(copy, user, name, moment)}
+    rows = [row for one in sorted(sets) for row in copy.rows("SELECT low, high FROM members WHERE set_no = ? AND kind = 1", one)]
+    return sorted({(int(it["low"]), int(it["high"])) for it in rows})
 
 
 def sees_branch(copy: Copy, user: int, branch: int, moment: int) -> bool:
@@ -111,7 +114,7 @@ Operation = dict[str, int | str]
 
 def require_operation(given: object) -> Operation:
     """An operation that can be released, with exactly its members."""
-    if not isinstance(given, dict) or given.get("procedure") not in RELEASED:
+    if not isinstance(given, dict) or not isinstance(given.get("procedure"), str) or given["procedure"] not in RELEASED:
         raise Refused(f"procedure is one of {', '.join(RELEASED)}")
     members = RELEASED[given["procedure"]]
     if set(given) != {*members, "procedure"}:

@@ -9,15 +9,21 @@ from .store import Refused, note_change
 
 MOST = 999_999_999
 # How long each text of a holder may be.
-LENGTHS = {"name": 200, "address": 500, "document": 200, "note": 1000}
+LENGTHS = {"name": 200, "address": 500, "document": 200, "note": 1000, "warning": 200}
+LANGUAGES = ("de", "en", "es", "fr")
 DATE = re.compile(r"\d{4}-(0[1-9]|1[0-2])-(0[1-9]|[12]\d|3[01])")
 BADGE = re.compile(r"[A-Za-z0-9_-][A-Za-z0-9._-]{0,63}")
 WORD = re.compile(r"\w+")
 APOSTROPHE = re.compile("['\u2019]")
 # What turns the direction of the text that follows, so that a name could look like another.
 TURNS = frozenset("\u202a\u202b\u202c\u202d\u202e\u2066\u2067\u2068\u2069")
+# What may be an umlaut, spelled out. After another vowel, or a q, it is none: Bauer, Queen.
+UMLAUT = re.compile("(?<![aeioq])([aou])e")
 UNSHOWN = ("Cc", "Cs", "Co", "Zl", "Zp")
 MAY = ("owns", "acts")
+# What stands after a name that a second person has not accepted yet.
+UNACCEPTED = " (?)"
+MOST_WORDS = 20
 
 
 class Holder(NamedTuple):
@@ -29,6 +35,19 @@ class Holder(NamedTuple):
     document: str = ""
     note: str = ""
     since: str = ""
+    # The date of birth, and the language of the papers: empty, or one of LANGUAGES.
+    born: str = ""
+    language: str = ""
+    # What a teller sees beside the account.
+    warning: str = ""
+    # The badge of who proposed this holder, as long as a second person has not accepted them.
+    proposer: str = ""
+
+
+    @property
+    def shown_name(self) -> str:
+        """The name as it is shown: with a mark, as long as a second person has not accepted it."""
+        return self.name + (UNACCEPTED if self.proposer else "")
 
 
 class Holding(NamedTuple):
@@ -67,8 +86,13 @@ def require_holder(it: Holder) -> None:
     require_number("holder", it.holder)
     for name, most in LENGTHS.items():
         require_text(name, getattr(it, name), most, least=int(name == "name"))
-    if it.since and not DATE.fullmatch(it.since):
-        raise Refused(f"since is a date as 2026-01-31, and not {it.since!r}")
+    for name in ("since", "born"):
+        if (date := getattr(it, name)) and not DATE.fullmatch(date):
+            raise Refused(f"{name} is a date as 2026-01-31, and not {date!r}")
+    if it.language and it.language not in LANGUAGES:
+        raise Refused(f"language is {', '.join(LANGUAGES)} or empty, and not {it.language!r}")
+    if it.proposer and not BADGE.fullmatch(it.proposer):
+        raise Refused(f"{it.proposer!r} is no badge")
 
 
 def folded(text: str) -> str:
@@ -87,6 +111,12 @@ def words_of(name: str) -> set[str]:
     return asked_words(name) | set(WORD.findall(folded(name)))
 
 
+def spellings_of(word: str) -> set[str]:
+    """A word that is looked for, and as it is found if ae, oe or ue in it represents an umlaut: mueller finds muller, of Müller."""
+    without = UMLAUT.sub(r"\1", word)
+    return {word, without} if len(without) > 2 else {word}
+
+
 def holder_of(found: sqlite3.Connection, number: int) -> Holder | None:
     """The holder of a number, if there is one."""
     row = found.execute("SELECT * FROM holders WHERE holder = ?", (number,)).fetchone()
@@ -100,8 +130,8 @@ def put_holder(found: sqlite3.Connection, badge: str, it: Holder) -> bool:
     if old == it:
         return False
     found.execute(
-        "INSERT INTO holders VALUES (?, ?, ?, ?, ?, ?) ON CONFLICT (holder) DO UPDATE SET name = excluded.name, "
-        "address = excluded.address, document = excluded.document, note = excluded.note, since = excluded.since",
+        f"INSERT INTO holders ({', '.join(Holder._fields)}) VALUES ({', '.join('?' * len(Holder._fields))}) "
+        f"ON CONFLICT (holder) DO UPDATE SET {', '.join(f'{name} = excluded.{name}' for name in Holder._fields[1:])}",
         it,
     )
     found.execute("DELETE FROM name_words WHERE holder = ?", (it.holder,))
@@ -175,7 +205,7 @@ def holders_of(found: sqlite3.Connection, account: int) -> list[tuple[Holder, st
     rows = found.execute(
         "SELECT holders.*, may FROM holdings JOIN holders USING (holder) WHERE account = ? ORDER BY may DESC, holder", (account,)
     ).fetchall()
-    return [(Holder(*tuple(row)[:6]), row["may"]) for row in rows]
+    return [(Holder(*tuple(row)[:-1]), row["may"]) for row in rows]
 
 
 def accounts_of(found: sqlite3.Connection, holder: int) -> list[Holding]:
@@ -185,7 +215,7 @@ def accounts_of(found: sqlite3.Connection, holder: int) -> list[Holding]:
 
 def names_of_accounts(found: sqlite3.Connection, accounts: Iterable[int]) -> dict[int, list[str]]:
     """The names of those who own each account."""
-    return {account: [it.name for it, may in holders_of(found, account) if may == "owns"] for account in accounts}
+    return {account: [it.shown_name for it, may in holders_of(found, account) if may == "owns"] for account in accounts}
 
 
 def is_enough(words: set[str]) -> bool:
@@ -198,7 +228,11 @@ def search(found: sqlite3.Connection, text: str) -> Iterator[Holder]:
     words = asked_words(text)
     if not is_enough(words):
         raise Refused("A search begins with two letters")
+    if len(words) > MOST_WORDS:
+        raise Refused(f"A search has at most {MOST_WORDS} words")
     # The ends of the ranges are the last character of Unicode, so that a range has each word with that beginning.
-    parts = " INTERSECT ".join(["SELECT holder FROM name_words WHERE word >= ? AND word < ?"] * len(words))
-    ends = [end for word in sorted(words) for end in (word, word + "\U0010ffff")]
+    spellings = [sorted(spellings_of(word)) for word in sorted(words)]
+    ranges = (" OR ".join(["word >= ? AND word < ?"] * len(it)) for it in spellings)
+    parts = " INTERSECT ".join(f"SELECT holder FROM name_words WHERE {it}" for it in ranges)
+    ends = [end for it in spellings for word in it for end in (word, word + "\U0010ffff")]
     return (Holder(*row) for row in found.execute(f"SELECT * FROM holders WHERE holder IN ({parts}) ORDER BY name, holder", ends))

@@ -4,19 +4,24 @@ The slip of a transfer is made of run and line, so what is sent again acts once.
 office's file and, by the slips, none in the newest copy of the bank.
 """
 import datetime
+import json
 import sqlite3
 from contextlib import ExitStack
 from typing import NamedTuple
 
+from . import apart, run_rights
 from .copies import Copies, Copy
-from .interest import require_period, transfers_of
+from .interest import transfers_of
+from .periods import require_period
 from .settings import Scheme, Settings
-from .store import Refused, changing, note_change, now
+from .store import Refused, changes_of, changing, note_change, now
 
 LINES_PER_RUN = 100_000
 MOST_RUNS = 9_999
 APPROVALS = 2
 KINDS = ("interest", "fee")
+# In the changes of a run: when the first of its transfers was sent.
+BEGUN = "begun"
 
 
 class Line(NamedTuple):
@@ -52,7 +57,7 @@ def lines_of(found: sqlite3.Connection, run: int) -> list[Line]:
 
 def approvals_of(found: sqlite3.Connection, run: int) -> list[sqlite3.Row]:
     """Who approved a run, and when."""
-    return found.execute("SELECT badge, moment FROM approvals WHERE run = ? ORDER BY moment, badge", (run,)).fetchall()
+    return found.execute("SELECT badge, user, moment FROM approvals WHERE run = ? ORDER BY moment, badge", (run,)).fetchall()
 
 
 def next_number(found: sqlite3.Connection, copy: Copy, user: int) -> int:
@@ -110,12 +115,24 @@ def propose(
         transfers = [it for scheme in schemes for it in transfers_of(opened, scheme, first, last)]
         if not 1 <= len(transfers) < LINES_PER_RUN:
             raise Refused(f"A run has 1 to {LINES_PER_RUN - 1:,} transfers, and not {len(transfers):,}")
+        run_rights.require_rights(opened[-1], office, user, schemes, transfers)
         with changing(found):
             require_new_period(found, kind, branch, first, last)
             run = next_number(found, opened[-1], user)
             found.execute(
-                "INSERT INTO runs VALUES (?, ?, ?, ?, ?, ?, ?, ?, ?, 'proposed')",
-                (run, kind, branch, schemes[0].teller, first.isoformat(), last.isoformat(), now(), badge, str(opened[-1].made)),
+                "INSERT INTO runs VALUES (?, ?, ?, ?, ?, ?, ?, ?, ?, ?, 'proposed')",
+                (
+                    run,
+                    kind,
+                    branch,
+                    schemes[0].teller,
+                    first.isoformat(),
+                    last.isoformat(),
+                    now(),
+                    badge,
+                    copies.user_of(badge),
+                    str(opened[-1].made),
+                ),
             )
             found.executemany(
                 "INSERT INTO run_lines VALUES (?, ?, ?, ?, ?, ?, ?, ?, ?, ?, 'waiting', '', NULL)",
@@ -141,19 +158,26 @@ def propose(
     return run
 
 
-def approve(found: sqlite3.Connection, settings: Settings, badge: str, run: int) -> bool:
-    """One approval; whether the run may be carried out by now. Who proposed it is none of the two."""
+def is_of(row: sqlite3.Row, badge: str, user: int) -> bool:
+    """Whether a row is of a person, by whichever of their badges."""
+    return bool(row["badge"] == badge or row["user"] == user)
+
+
+def approve(found: sqlite3.Connection, settings: Settings, badge: str, user: int, run: int) -> bool:
+    """One approval; whether the run may be carried out by now. Two users of the bank approve, and who proposed it is none of them."""
     if badge not in settings.approvers:
         raise Refused("You approve no runs")
+    if fault := apart.fault_of(settings, [badge]):
+        raise Refused(fault)
     with changing(found):
         row = run_of(found, run)
         if row["state"] != "proposed":
             raise Refused(f"Run {run} is {row['state']}")
-        if row["badge"] == badge:
+        if is_of(row, badge, user):
             raise Refused("Who proposed a run does not approve it")
-        if any(it["badge"] == badge for it in approvals_of(found, run)):
+        if any(is_of(it, badge, user) for it in approvals_of(found, run)):
             raise Refused("You have approved it: somebody else has to, too")
-        found.execute("INSERT INTO approvals VALUES (?, ?, ?)", (run, badge, now()))
+        found.execute("INSERT INTO approvals VALUES (?, ?, ?, ?)", (run, badge, user, now()))
         is_approved = len(approvals_of(found, run)) >= APPROVALS
         if is_approved:
             found.execute("UPDATE runs SET state = 'approved' WHERE run = ?", (run,))
@@ -161,16 +185,47 @@ def approve(found: sqlite3.Connection, settings: Settings, badge: str, run: int)
     return is_approved
 
 
+def may_be_withdrawn(found: sqlite3.Connection, run: int) -> bool:
+    """Whether nothing of a run is carried out, nor may be: it is proposed; or approved, and no transfer was sent; or the bank refused
+    each. A transfer that was sent and not answered may be done."""
+    state = run_of(found, run)["state"]
+    if state == "carried out":
+        return all(it.state == "refused" for it in lines_of(found, run))
+    return state == "proposed" or state == "approved" and not is_begun(found, run)
+
+
+def acts_on(found: sqlite3.Connection, run: int) -> list[str]:
+    """What an approver may do with a run."""
+    own = {"proposed": ["approve"], "carried out": ["again"]}.get(run_of(found, run)["state"], [])
+    return own + (["withdraw"] if may_be_withdrawn(found, run) else [])
+
+
 def withdraw(found: sqlite3.Connection, settings: Settings, badge: str, run: int) -> None:
-    """Withdraws a run that is not approved yet."""
+    """Withdraws a run of which nothing was carried out, so that its period can be proposed anew. Who proposed it may, until it is
+    approved."""
     with changing(found):
         row = run_of(found, run)
-        if badge not in settings.approvers and badge != row["badge"]:
+        if badge not in settings.approvers and (badge != row["badge"] or row["state"] != "proposed"):
             raise Refused("You approve no runs")
-        if row["state"] != "proposed":
-            raise Refused(f"Run {run} is {row['state']}")
+        if not may_be_withdrawn(found, run):
+            raise Refused(f"Run {run} is {row['state']}, and what was sent of it may be done")
         found.execute("UPDATE runs SET state = 'withdrawn' WHERE run = ?", (run,))
         note_change(found, badge, "run", str(run), None, {"withdrawn by": badge})
+
+
+def is_begun(found: sqlite3.Connection, run: int) -> bool:
+    """Whether a transfer of a run was sent."""
+    noted = (json.loads(it["new"] or "{}") for it in changes_of(found, "run", str(run)))
+    return any(BEGUN in it for it in noted) or any(it.state != "waiting" for it in lines_of(found, run))
+
+
+def note_begun(found: sqlite3.Connection, run: int) -> None:
+    """Keeps, before the first transfer of an approved run is sent, that it is."""
+    with changing(found):
+        if (state := run_of(found, run)["state"]) != "approved":
+            raise Refused(f"Run {run} is {state}")
+        if not is_begun(found, run):
+            note_change(found, "(service)", "run", str(run), None, {BEGUN: now()})
 
 
 def next_waiting(found: sqlite3.Connection, run: int) -> Line | None:

@@ -1,6 +1,9 @@
--- The office's own file. Nothing of the bank stands here but numbers of accounts, users and releases.
+-- The office's own file. Nothing of the bank stands here but numbers of accounts, users, releases, branches, days, entries and lines.
+-- Of a holder who waits for a second person `proposer` is the badge of the first; else it is empty.
 CREATE TABLE IF NOT EXISTS holders (
-    holder INTEGER PRIMARY KEY, name TEXT NOT NULL, address TEXT NOT NULL, document TEXT NOT NULL, note TEXT NOT NULL, since TEXT NOT NULL
+    holder INTEGER PRIMARY KEY, name TEXT NOT NULL, address TEXT NOT NULL, document TEXT NOT NULL, note TEXT NOT NULL,
+    since TEXT NOT NULL, born TEXT NOT NULL DEFAULT '', language TEXT NOT NULL DEFAULT '', warning TEXT NOT NULL DEFAULT '',
+    proposer TEXT NOT NULL DEFAULT ''
 ) STRICT;
 CREATE TABLE IF NOT EXISTS holdings (
     account INTEGER NOT NULL, holder INTEGER NOT NULL REFERENCES holders, may TEXT NOT NULL CHECK (may IN ('owns', 'acts')),
@@ -9,35 +12,13 @@ CREATE TABLE IF NOT EXISTS holdings (
 CREATE TABLE IF NOT EXISTS users (badge TEXT PRIMARY KEY, user INTEGER NOT NULL, name TEXT NOT NULL) STRICT, WITHOUT ROWID;
 -- The words of each holder's name, without accents and in small letters, for the search.
 CREATE TABLE IF NOT EXISTS name_words (word TEXT NOT NULL, holder INTEGER NOT NULL, PRIMARY KEY (word, holder)) STRICT, WITHOUT ROWID;
--- Who changed what and when: a row as it was and as it is, or nothing. No row of this table is changed or removed.
-CREATE TABLE IF NOT EXISTS changes (
-    change INTEGER PRIMARY KEY AUTOINCREMENT, moment INTEGER NOT NULL, badge TEXT NOT NULL, what TEXT NOT NULL, row TEXT NOT NULL,
-    old TEXT, new TEXT
-) STRICT;
-CREATE INDEX IF NOT EXISTS changes_by_row ON changes (what, row);
-CREATE TRIGGER IF NOT EXISTS changes_stay BEFORE UPDATE ON changes BEGIN SELECT RAISE(ABORT, 'a change is never changed'); END;
-CREATE TRIGGER IF NOT EXISTS changes_are_kept BEFORE DELETE ON changes BEGIN SELECT RAISE(ABORT, 'a change is never removed'); END;
--- Requests that wait for others: for a release, or for a colleague who makes the correction. `number` is that of the release, or of
--- the entry that corrects.
+-- Requests that wait for others: for a release of each of their operations, or for a colleague who makes the correction. `numbers`
+-- has that of each release, or of the entry that corrects. A claim is one supervisor's until its end; `lapsed` has the badges whose
+-- claim ran out without an answer.
 CREATE TABLE IF NOT EXISTS asks (
-    ask INTEGER PRIMARY KEY AUTOINCREMENT, moment INTEGER NOT NULL, badge TEXT NOT NULL, user INTEGER NOT NULL, operation TEXT NOT NULL,
+    ask INTEGER PRIMARY KEY AUTOINCREMENT, moment INTEGER NOT NULL, badge TEXT NOT NULL, user INTEGER NOT NULL, operations TEXT NOT NULL,
     wish TEXT NOT NULL CHECK (wish IN ('release', 'correct')), state TEXT NOT NULL CHECK (state IN ('waiting', 'done', 'refused', 'withdrawn')),
-    answered INTEGER, answerer TEXT, number INTEGER, reason TEXT NOT NULL DEFAULT ''
+    answered INTEGER, answerer TEXT, reason TEXT NOT NULL DEFAULT '', numbers TEXT, claimer TEXT, claim_ends INTEGER,
+    lapsed TEXT NOT NULL DEFAULT '[]', taken_back INTEGER NOT NULL DEFAULT 0
 ) STRICT;
 CREATE INDEX IF NOT EXISTS asks_by_state ON asks (state, ask);
--- Runs: lists of transfers that two persons approve before they are sent.
-CREATE TABLE IF NOT EXISTS runs (
-    run INTEGER PRIMARY KEY, kind TEXT NOT NULL CHECK (kind IN ('interest', 'fee')), branch INTEGER NOT NULL, teller INTEGER NOT NULL,
-    first TEXT NOT NULL, last TEXT NOT NULL, moment INTEGER NOT NULL, badge TEXT NOT NULL, copy TEXT NOT NULL,
-    state TEXT NOT NULL CHECK (state IN ('proposed', 'approved', 'carried out', 'withdrawn'))
-) STRICT;
-CREATE TABLE IF NOT EXISTS run_lines (
-    run INTEGER NOT NULL REFERENCES runs, line INTEGER NOT NULL, account INTEGER NOT NULL, part INTEGER NOT NULL, parts INTEGER NOT NULL,
-    source INTEGER NOT NULL, target INTEGER NOT NULL, amount INTEGER NOT NULL CHECK (amount BETWEEN 1 AND 999999),
-    slip INTEGER NOT NULL UNIQUE, why TEXT NOT NULL,
-    state TEXT NOT NULL CHECK (state IN ('waiting', 'done', 'refused')), reply TEXT NOT NULL DEFAULT '', answered INTEGER,
-    PRIMARY KEY (run, line)
-) STRICT, WITHOUT ROWID;
-CREATE TABLE IF NOT EXISTS approvals (
-    run INTEGER NOT NULL REFERENCES runs, badge TEXT NOT NULL, moment INTEGER NOT NULL, PRIMARY KEY (run, badge)
-) STRICT, WITHOUT ROWID;

@@ -1,17 +1,25 @@
-"""The register as CSV (RFC 4180, UTF-8): what goes out comes in again equal, and what can't be taken is refused by its line."""
+"""Sheets: CSV in UTF-8, with the separator, the decimal mark and the headings of a language. The register goes out so, and comes in again
+equal, in whichever of the languages; what can't be taken is refused by its line."""
 import csv
+import datetime
 import io
 import re
 import sqlite3
 from collections.abc import Callable, Iterable, Sequence
+from decimal import Decimal
 from typing import NamedTuple
 
 from . import register
+from .languages import LANGUAGES, MARKS, Language, language_of
 from .register import Holder, Holding, User
 from .store import Refused, changing
 
-# A spreadsheet takes a field that begins with one of these for a formula, so such a field goes out with an apostrophe in front.
-FORMULA = re.compile(r"'*[=+\-@\t]")
+# A spreadsheet takes a field that begins with one of these for a formula. Where a semicolon separates fields, as in many countries,
+# or a line ends within one, another field begins there. So an apostrophe goes out in front of each.
+BEGINS = r"(?:^|(?<=[;\t\n\r]))"
+SIGN = r"(?='*[=+\-@\t\uff1d\uff0b\uff0d\uff20])"
+FORMULA = re.compile(BEGINS + SIGN)
+GUARD = re.compile(f"{BEGINS}'{SIGN}")
 NUMBER = re.compile(r"[1-9]\d{0,8}")
 MOST_BYTES = 4 << 20
 
@@ -19,8 +27,8 @@ MOST_BYTES = 4 << 20
 class SheetRefused(Refused):
     """A sheet is not taken, by its name and line."""
 
-    def __init__(self, name: str, line: int, why: str) -> None:
-        super().__init__(f"{name}.csv, line {line}: {why}")
+    def __init__(self, sheet: str, line: int, why: str) -> None:
+        super().__init__(f"{sheet}.csv, line {line}: {why}")
 
 
 class Sheet(NamedTuple):
@@ -40,30 +48,48 @@ SHEETS = {
 }
 
 
+# The columns of each sheet from the first version on.
+LEAST_COLUMNS = {"holders": 6, "holdings": 3, "users": 3}
+
+
+# By this mark in front a spreadsheet knows UTF-8 (RFC 4180 knows none, and no program needs it where a comma separates).
+UTF8_MARK = "\ufeff"
+# The terms of the column `may`.
+MAY = (*register.MAY, "none")
+
+
 def guarded(field: object) -> str:
     """A field as it goes out."""
-    text = str(field)
-    return f"'{text}" if isinstance(field, str) and FORMULA.match(text) else text
+    return FORMULA.sub("'", field) if isinstance(field, str) else str(field)
+
+
+def written(field: object, language: Language) -> str:
+    """A field as a language writes it: an amount with its mark, a date in its form."""
+    if isinstance(field, Decimal):
+        return str(field).replace(".", language.marks.decimal)
+    return language.date(field) if isinstance(field, datetime.date) else guarded(field)
 
 
 def bare(text: str) -> str:
-    """A field as it came, without the apostrophe of `guarded`."""
-    return text[1:] if text.startswith("'") and FORMULA.match(text) else text
+    """A field as it came, without the apostrophes of `guarded`."""
+    return GUARD.sub("", text)
 
 
-def sheet_text(heading: Iterable[str], rows: Iterable[Iterable[object]]) -> str:
+def sheet_text(heading: Iterable[str], rows: Iterable[Iterable[object]], language: Language = language_of("en")) -> str:
     """Rows as CSV."""
     out = io.StringIO()
-    writer = csv.writer(out)
-    writer.writerow(heading)
-    writer.writerows([guarded(field) for field in row] for row in rows)
+    if language.marks.separator != ",":
+        out.write(UTF8_MARK)
+    writer = csv.writer(out, delimiter=language.marks.separator)
+    writer.writerow(language.say(it) for it in heading)
+    writer.writerows([written(field, language) for field in row] for row in rows)
     return out.getvalue()
 
 
-def exported(found: sqlite3.Connection, name: str) -> str:
+def exported(found: sqlite3.Connection, name: str, language: Language = language_of("en")) -> str:
     """A part of the register as CSV."""
-    sheet = SHEETS[name]
-    return sheet_text(sheet.heading, sheet.rows(found))
+    rows = [[language.say(str(it)) if it in MAY else it for it in row] if name == "holdings" else row for row in SHEETS[name].rows(found)]
+    return sheet_text(SHEETS[name].heading, rows, language)
 
 
 def text_of(name: str, given: bytes) -> str:
@@ -77,15 +103,30 @@ def text_of(name: str, given: bytes) -> str:
         raise SheetRefused(name, line, "it is not UTF-8: save it as CSV UTF-8") from error
 
 
-def row_of(name: str, line: int, record: list[str]) -> Holder | Holding | User:
+def english_of(words: Iterable[str]) -> dict[str, str]:
+    """The English word of each translation of these terms."""
+    return {language_of(code).say(word).casefold(): word for code in LANGUAGES for word in words}
+
+
+def heading_of(name: str, record: list[str]) -> tuple[str, ...]:
+    """The columns that a file has: the first ones, so that a file of a version with fewer columns is taken; in one of the languages."""
+    heading, english = SHEETS[name].heading, english_of(SHEETS[name].heading)
+    given = tuple(english.get(it.strip().casefold(), it) for it in record)
+    if given not in (heading[:count] for count in range(LEAST_COLUMNS[name], len(heading) + 1)):
+        raise SheetRefused(name, 1, f"the heading is {','.join(heading)}, separated by commas or semicolons")
+    return given
+
+
+def row_of(name: str, line: int, heading: Sequence[str], record: list[str]) -> Holder | Holding | User:
     """The row of a record."""
     sheet = SHEETS[name]
-    if len(record) != len(sheet.heading):
-        raise SheetRefused(name, line, f"{len(record)} fields, and not {len(sheet.heading)}: {','.join(sheet.heading)}")
+    if len(record) != len(heading):
+        raise SheetRefused(name, line, f"{len(record)} fields, and not {len(heading)}: {','.join(heading)}")
     values: list[int | str] = []
-    for column, field in zip(sheet.heading, record):
+    for column, field in zip(heading, record):
         if column not in sheet.numbers:
-            values.append(bare(field))
+            text = bare(field)
+            values.append(english_of(MAY).get(text.casefold(), text) if column == "may" else text)
         elif NUMBER.fullmatch(field):
             values.append(int(field))
         else:
@@ -93,18 +134,24 @@ def row_of(name: str, line: int, record: list[str]) -> Holder | Holding | User:
     return sheet.make(*values)
 
 
+def separator_of(text: str) -> str:
+    """What separates the fields of a file, by its first line: a comma, or a semicolon as in countries with a decimal comma."""
+    first = text.split("\n", 1)[0]
+    return max((it.separator for it in MARKS.values()), key=first.count) if ";" in first else ","
+
+
 def rows_of(name: str, text: str) -> list[tuple[int, Holder | Holding | User]]:
     """The rows of a file, each with the line at which it begins."""
-    reader = csv.reader(io.StringIO(text, newline=""), strict=True)
+    reader = csv.reader(io.StringIO(text, newline=""), delimiter=separator_of(text), strict=True)
     rows: list[tuple[int, Holder | Holding | User]] = []
+    heading: tuple[str, ...] = ()
     begins = 1
     try:
         for record in reader:
             if begins == 1:
-                if tuple(record) != SHEETS[name].heading:
-                    raise SheetRefused(name, 1, f"the heading is {','.join(SHEETS[name].heading)}")
+                heading = heading_of(name, record)
             elif record:
-                rows.append((begins, row_of(name, begins, record)))
+                rows.append((begins, row_of(name, begins, heading, record)))
             begins = reader.line_num + 1
     except csv.Error as error:
         raise SheetRefused(name, max(reader.line_num, 1), str(error)) from error

@@ -1,11 +1,11 @@
 """The statement of an account over all years: the files of closed years and the present one, joined by the account's balances."""
 import datetime
-import time
 from contextlib import ExitStack
 from typing import NamedTuple
 
 from .books import ENTRIES, Entry
 from .copies import Copies, Copy
+from .periods import begins, require_period
 from .store import Refused
 
 
@@ -36,9 +36,12 @@ class Chain(NamedTuple):
     until: int
 
 
-def begins(date: datetime.date) -> int:
-    """The moment at which a date begins by the machine's clock."""
-    return int(time.mktime((date.year, date.month, date.day, 0, 0, 0, 0, 0, -1)))
+def date_of(text: str) -> datetime.date:
+    """A date that was typed, of a year that a bank can have."""
+    date = datetime.date.fromisoformat(text)
+    if not 1970 <= date.year <= 2999:
+        raise ValueError(f"{date} is of no year of a bank")
+    return date
 
 
 def chain_of(copies: list[Copy], account: int) -> Chain:
@@ -83,9 +86,9 @@ def within(chain: Chain, account: int, first: datetime.date, last: datetime.date
 
 
 def statement(copies: Copies, account: int, first: datetime.date, last: datetime.date) -> Statement:
-    """The statement of an account between two dates."""
-    stack = ExitStack()
-    try:
-        return within(chain_of([stack.enter_context(it) for it in copies.all()], account), account, first, last)
-    finally:
-        stack.close()
+    """The statement of an account between two dates, which the bank has lived."""
+    with ExitStack() as stack:
+        opened = [stack.enter_context(it) for it in copies.all()]
+        require_period(opened, first, last)
+        found = within(chain_of(opened, account), account, first, last)
+    return found

@@ -7,11 +7,16 @@ from contextlib import contextmanager
 from pathlib import Path
 from typing import Any
 
-SCHEMA = Path(__file__).with_name("schema.sql")
+from . import chain
+from .migrations import REGISTER, LaterVersion, Step, Tables, bring_up, version_of
 
 
 class Refused(Exception):
     """What was asked for is not done, and why."""
+
+
+class Taken(Refused):
+    """Somebody else has it, or it is done."""
 
 
 def now() -> int:
@@ -19,16 +24,28 @@ def now() -> int:
     return int(time.time())
 
 
+def begin_empty(found: sqlite3.Connection) -> None:
+    """Leaves new tables empty."""
+
+
 @contextmanager
-def opened(file: Path) -> Iterator[sqlite3.Connection]:
-    """The office's file, made where it is not there. What is not committed in the end is undone."""
-    found = sqlite3.connect(file, isolation_level=None, timeout=20)
+def opened(file: Path, tables: Tables = REGISTER, begin: Step = begin_empty) -> Iterator[sqlite3.Connection]:
+    """A file of the office, made where it is not there. What is not committed in the end is undone."""
+    try:
+        found = sqlite3.connect(file, isolation_level=None, timeout=20)
+    except sqlite3.OperationalError as error:
+        raise Refused(f"{file}: {error}") from error
     try:
         found.row_factory = sqlite3.Row
         found.execute("PRAGMA foreign_keys = ON")
         found.execute("PRAGMA synchronous = FULL")
-        if not found.execute("SELECT 1 FROM sqlite_master WHERE name = 'approvals'").fetchone():
-            found.executescript(f"BEGIN IMMEDIATE;\n{SCHEMA.read_text(encoding='utf-8')}\nCOMMIT;")
+        found.execute("PRAGMA secure_delete = ON")
+        if version_of(found) != tables.version:
+            try:
+                with changing(found):
+                    bring_up(found, tables, begin)
+            except LaterVersion as error:
+                raise Refused(str(error)) from error
         yield found
     finally:
         found.close()
@@ -51,9 +68,7 @@ def note_change(
 ) -> None:
     """Records that a row was changed, within the transaction that changes it."""
     texts = [None if it is None else json.dumps(it, ensure_ascii=False, sort_keys=True) for it in (old, new)]
-    found.execute(
-        "INSERT INTO changes (moment, badge, what, row, old, new) VALUES (?, ?, ?, ?, ?, ?)", (now(), badge, what, row, *texts)
-    )
+    chain.add(found, {"moment": now(), "badge": badge, "what": what, "row": row, "old": texts[0], "new": texts[1]})
 
 
 def changes_of(found: sqlite3.Connection, what: str, row: str) -> list[sqlite3.Row]:

@@ -1,26 +1,47 @@
 """The service over HTTP: who asks, what they may see, and the guards of every page. The front alone reaches it."""
 import os
-import secrets
+import re
+from collections.abc import Iterable
 from contextlib import ExitStack
 from pathlib import Path
 from typing import Any, NoReturn
 
-from flask import Flask, Response, abort, g, jsonify, render_template, request
+from flask import Blueprint, Flask, Response, abort, g, jsonify, render_template, request
 from itsdangerous import BadSignature, URLSafeTimedSerializer
+from markupsafe import Markup, escape
 from werkzeug.exceptions import HTTPException
+from werkzeug.routing import IntegerConverter
 
-from . import books, money, policy, register
+from . import books, policy, register
 from .copies import Copies, Copy
+from .form_key import form_key_of
+from .languages import LANGUAGES, NAMES, Language, language_of
 from .settings import Settings, read_settings
-from .store import Refused, now, opened
+from .store import Refused, Taken, now, opened
 
 FORM_SECONDS = 12 * 3600
 MOST_BYTES = 5 << 20
+NUMBER = re.compile("[0-9]{1,20}")
 SETTINGS = Path("/etc/bank-office/settings.toml")
+# What is said of a request that no page could answer.
+FAULTS = {
+    400: "This request can't be read",
+    404: "There is no such page",
+    405: "This page is not asked so",
+    413: f"A request has at most {MOST_BYTES >> 20} MiB",
+    500: "The office has a fault: its journal says which",
+}
 
 
 class Forbidden(Exception):
     """Who asks may not see or do this."""
+
+
+class Number(IntegerConverter):
+    """A number in a path: of an account, a holder, a request. There is no page of one that nothing can have."""
+
+    def __init__(self, map: Any) -> None:
+        super().__init__(map, max=register.MOST)
 
 
 class Desk:
@@ -33,6 +54,7 @@ class Desk:
         self._copy: Copy | None = None
         self._years: list[Copy] = []
         self._ranges: list[tuple[int, int]] | None = None
+        self._user: int | None = None
 
     @property
     def found(self) -> Any:
@@ -58,10 +80,11 @@ class Desk:
     @property
     def user(self) -> int:
         """The number of who asks."""
-        number = self.copies.user_of(self.badge)
-        if number is None:
+        if self._user is None:
+            self._user = self.copies.user_of(self.badge)
+        if self._user is None:
             raise Forbidden("The bank's list of badges does not have yours")
-        return number
+        return self._user
 
     @property
     def is_keeper(self) -> bool:
@@ -73,11 +96,27 @@ class Desk:
         """Whether they approve runs."""
         return self.badge in self.settings.approvers
 
+    @property
+    def late_since(self) -> int | None:
+        """When the last good night was, if that is not the last one."""
+        return self.copies.late_since(now())
+
     def require_active(self) -> None:
-        """Refuses whom the newest copy has as suspended, whatever the settings say of them."""
-        number = self.copies.user_of(self.badge)
-        if number is not None and self.copies.has_present() and policy.is_suspended(self.copy, number):
+        """Refuses whom the bank's list of badges no longer has, or the bank has suspended, whatever the settings say of them."""
+        number = self.user
+        if self.copies.has_present() and policy.is_suspended(self.copy, number):
             raise Forbidden("You are suspended at the bank")
+
+    @property
+    def is_auditor(self) -> bool:
+        """Whether they see rights and controls: officers, to whom the bank lists its policy, and who audits by the settings."""
+        if self.badge in self.settings.auditors:
+            return True
+        number = self.copies.user_of(self.badge)
+        try:
+            return number is not None and self.copies.has_present() and policy.is_officer(self.copy, number)
+        except Refused:  # the copy can't be read, of which the page says more
+            return False
 
     def sees_account(self, account: int) -> bool:
         """Whether they may know whose an account is."""
@@ -109,15 +148,17 @@ def desk() -> Desk:
     return found
 
 
-def secret_of(file: Path) -> str:
-    """The key that signs forms, kept beside the office's file, so that all workers have the same."""
-    kept = file.with_name("secret")
-    try:
-        with os.fdopen(os.open(kept, os.O_WRONLY | os.O_CREAT | os.O_EXCL, 0o600), "w", encoding="ascii") as new:
-            new.write(secrets.token_hex(32))
-    except FileExistsError:
-        pass
-    return kept.read_text(encoding="ascii")
+def language() -> Language:
+    """The language of who asks: the first of the browser's that the office has, else English."""
+    if "language" not in g:
+        g.language = language_of(request.accept_languages.best_match(LANGUAGES, "en"))
+    found: Language = g.language
+    return found
+
+
+def t(sentence: str, **values: object) -> Markup:
+    """A sentence in the language of who asks, with these values in its places."""
+    return Markup(escape(language().say(sentence))).format(**values) if values else escape(language().say(sentence))
 
 
 def token() -> str:
@@ -144,8 +185,9 @@ def require_own_form() -> None:
         raise Forbidden("This form is another user's")
 
 
-def failed(status: int, text: str) -> Response:
+def failed(status: int, english: str) -> Response:
     """What a refused request gets: a line of JSON, or a page."""
+    text = language().told(english)
     if request.path.startswith("/office/api/"):
         reply = jsonify(office=text)
         reply.status_code = status
@@ -153,14 +195,14 @@ def failed(status: int, text: str) -> Response:
     return Response(render_template("refused.html", text=text), status)
 
 
-def add_guards(app: Flask, settings: Settings) -> None:
+def add_guards(app: Flask, settings: Settings, file: Path, kind: type[Desk]) -> None:
     """Who asks, before each request; the end of what it opened, after it; and what is said where it is refused."""
-    serializer = URLSafeTimedSerializer(secret_of(settings.file), salt="office form")
+    serializer = URLSafeTimedSerializer(form_key_of(file), salt="office form")
 
     @app.before_request
     def begin() -> None:
         g.serializer = serializer
-        g.desk = Desk(settings, request.headers.get("Bank-Badge", ""))
+        g.desk = kind(settings, request.headers.get("Bank-Badge", ""))
         if not g.desk.badge:
             raise Forbidden("The front has named no badge")
         g.desk.require_active()
@@ -175,19 +217,30 @@ def add_guards(app: Flask, settings: Settings) -> None:
     def refused(error: Refused) -> Response:
         return failed(422, str(error))
 
+    @app.errorhandler(Taken)
+    def taken(error: Taken) -> Response:
+        return failed(409, str(error))
+
     @app.errorhandler(Forbidden)
     def forbidden(error: Forbidden) -> Response:
         return failed(403, str(error))
 
     @app.errorhandler(HTTPException)
     def other(error: HTTPException) -> Response:
-        return failed(error.code or 500, error.description or error.name)
+        return failed(error.code or 500, FAULTS.get(error.code or 500, f"The office answers {error.code}"))
 
 
 def add_words(app: Flask) -> None:
     """What the templates use beside what a page gives them."""
-    app.jinja_env.filters.update(amount=money.shown, clock=books.clock, date=books.date_of)
-    app.jinja_env.globals.update(token=token, desk=desk, forms=books.FORMS, cash_forms=books.CASH_FORMS)
+    app.jinja_env.filters.update(
+        amount=lambda cents: language().amount(cents),
+        whole=lambda number: language().number(number),
+        clock=lambda moment: language().moment(moment),
+        date=lambda moment: language().date_of(moment),
+        day=lambda date: language().date(date) if date else "",
+        said=lambda text: language().told(text),
+    )
+    app.jinja_env.globals.update(t=t, language=language, languages=NAMES, token=token, desk=desk, forms=books.FORMS, cash_forms=books.CASH_FORMS)
 
     def user_name(number: int) -> str:
         if "names" not in g:
@@ -198,18 +251,25 @@ def add_words(app: Flask) -> None:
     app.jinja_env.filters["user"] = user_name
 
 
-def make_app(settings: Settings) -> Flask:
-    """The service."""
-    from . import pages_books, pages_queue, pages_register, pages_runs
-
+def app_of(settings: Settings, file: Path, kind: type[Desk], all_pages: Iterable[Blueprint]) -> Flask:
+    """A service of these pages, whose forms are signed by a key beside a file."""
     app = Flask(__name__, static_url_path="/office/static")
     app.config["MAX_CONTENT_LENGTH"] = MOST_BYTES
+    app.url_map.converters["number"] = Number
     app.jinja_env.trim_blocks = app.jinja_env.lstrip_blocks = True
-    add_guards(app, settings)
+    add_guards(app, settings, file, kind)
     add_words(app)
-    for pages in (pages_register, pages_books, pages_queue, pages_runs):
-        app.register_blueprint(pages.pages, url_prefix="/office")
+    for pages in all_pages:
+        app.register_blueprint(pages, url_prefix="/office")
     return app
+
+
+def make_app(settings: Settings) -> Flask:
+    """The office: all pages but those of runs, which are another service's (web_runs)."""
+    from . import pages_audit, pages_books, pages_customers, pages_morning, pages_notes, pages_queue, pages_register
+
+    own = (pages_register, pages_books, pages_queue, pages_notes, pages_audit, pages_customers, pages_morning)
+    return app_of(settings, settings.file, Desk, tuple(it.pages for it in own))
 
 
 def application() -> Flask:
@@ -224,11 +284,22 @@ def attached(text: str, name: str, kind: str = "text/csv; charset=utf-8") -> Res
 
 def number_of(text: str | None, what: str) -> int:
     """A number that was typed."""
-    if text is None or not text.strip().isascii() or not text.strip().isdigit() or not 1 <= int(text) <= register.MOST:
+    if text is None or not NUMBER.fullmatch(text.strip()) or not 1 <= int(text) <= register.MOST:
         raise Refused(f"{what} is a number from 1 to {register.MOST:,}, and not {text!r}")
     return int(text)
 
 
+def asked_object() -> dict[str, Any]:
+    """The body of a request of the teller's page: one object of JSON."""
+    try:
+        given = request.get_json(force=True)
+    except RecursionError as error:
+        raise Refused("This is nested too deep") from error
+    if not isinstance(given, dict):
+        raise Refused("A body is an object")
+    return given
+
+
 def missing() -> NoReturn:
     """There is no such page."""
-    abort(404, "There is no such page")
+    abort(404)

@@ -18,15 +18,23 @@ from branches import PATIENCE, Branch, require
 from bank_office.carry import Bank
 from bank_office.settings import Settings, read_settings
 
+# The services that listen, each with a badge and a page by which it is seen that it answers.
+SERVICES = {"bank-office": ("amy", "/office/users"), "bank-office-approvals": ("sue", "/office/runs")}
 # How many browsers there are at once.
 BROWSERS = 4
+# The page lets an office alone for half a minute that gave no reply within four seconds, as one of a busy machine may: here it has more.
+PATIENT = {"/js/office.js": (b"const SECONDS = 4;", b"const SECONDS = %d;" % PATIENCE)}
 # Noon of a day of the first year, by whose moments its requests are carried out.
 EARLIER = int(time.mktime((2025, 6, 2, 12, 0, 0, 0, 0, -1)))
 SETTINGS = """
 file = "{top}/office"
+runs = "{top}/runs-of-their-own/runs"
 copies = "{top}/copies-of-the-office"
+trail = "{top}/trail-of-the-office"
 keepers = ["kim"]
 approvers = ["sue", "sam"]
+# Tellers of this bank open accounts, too, whose new customers a second person accepts: so new-account and transfer may meet.
+apart = [["post", "release"], ["transfer", "release"], ["correct", "release"], ["drawer-on", "close-day"], ["approver", "certifier"]]
 front = "{url}"
 authority = "{ca}/front/authority.pem"
 certificate = "{ca}/tellers/office.pem"
@@ -69,13 +77,19 @@ class Day:
         self.relays = [make_relay(None, files) for _ in range(BROWSERS)] if make_relay else []
         self.browsers: list[Any] = []
         self.settings_file = files.top / "settings.toml"
-        self.socket = files.top / "office.socket"
+        self.sockets = {it: files.top / f"{it}.socket" for it in SERVICES}
+        (files.top / "runs-of-their-own").mkdir()
         Served.relays = self.relays
         self.branch = Served(
-            files, "branch", bank=False, changes=[*branches.NO_RATE, ("unix:/run/bank-office.socket", f"unix:{self.socket}")]
+            files,
+            "branch",
+            bank=False,
+            changes=[*branches.NO_RATE, *((f"unix:/run/{name}.socket", f"unix:{path}") for name, path in self.sockets.items())],
         )
+        for path, (old, _) in PATIENT.items():
+            require((self.branch.folder / f"page{path}").read_bytes().count(old), 1, f"{old!r} in {path}")
         for relay in self.relays:
-            relay.counter = self.branch
+            relay.counter, relay.swaps = self.branch, PATIENT
         self.copies, self.bank_copies = files.top / "copies-of-the-office", files.top / "copies"
         self.copies.mkdir()
         self.bank_copies.mkdir()
@@ -84,7 +98,7 @@ class Day:
         self.settings: Settings = read_settings(self.settings_file)
         self.environment = {**os.environ, "PYTHONPATH": str(files.top / "office-code"), "OFFICE_SETTINGS": str(self.settings_file),
                             "PYTHONDONTWRITEBYTECODE": "1"}  # fmt: skip
-        self.service: subprocess.Popen[bytes] | None = None
+        self.services: dict[str, subprocess.Popen[bytes]] = {}
 
     # ---- the bank
 
@@ -145,42 +159,52 @@ class Day:
     def night(self) -> None:
         """A copy, its check, and its way to the office, by the scripts of the units; nobody asks the bank meanwhile."""
         swaps = [("/var/lib/bank-office-copies", str(self.copies)), ("/var/lib/bank-copies", str(self.bank_copies)),
-                 ("/var/lib/bank", str(self.branch.folder)), ("/etc/bank-badges.csv", str(self.branch.folder / "lists/badges.csv"))]  # fmt: skip
+                 ("/var/lib/bank", str(self.branch.folder)), ("/etc/bank-badges.csv", str(self.branch.folder / "lists/badges.csv")),
+                 ("/usr/lib/tespiorvu", str(self.files.top / "units"))]  # fmt: skip
         environment = {**os.environ, "PATH": f"{self.files.top}:{branches.PATH}"}
-        for path in ("units/keep-copy", "units/check-copy", "office-code/units/hand-copies"):
+        for path in ("units/keep-copy", "units/check-copy"):
             name = Path(path).name
             script = self.files.top / f"{name}.here"
             self.branch.swap(self.files.top / path, script, swaps)
             ran = subprocess.run(["sh", script], env=environment, capture_output=True, text=True)
             require(ran.returncode, 0, f"{name}: {ran.stderr}")
+        places = (self.branch.folder, self.bank_copies, self.copies, self.branch.folder / "lists/badges.csv")
+        words = [sys.executable, self.files.top / "office-code/units/hand-copies", *places]
+        ran = subprocess.run(words, env={**environment, **self.environment, "PATH": environment["PATH"]}, capture_output=True, text=True)
+        require((ran.returncode, ran.stderr), (0, ""), "hand-copies")
 
     # ---- the office
 
-    def start_service(self) -> None:
-        """Starts the service as its unit does, over a listening socket that is handed to it."""
-        command = re.search(r"^ExecStart=(.*)$", (self.files.top / "office-code/units/bank-office.service").read_text(), re.MULTILINE)
+    def start(self, name: str, badge: str, path: str) -> None:
+        """Starts a service as its unit does, over a listening socket that is handed to it, and waits until it has a page."""
+        command = re.search(r"^ExecStart=(.*)$", (self.files.top / f"office-code/units/{name}.service").read_text(), re.MULTILINE)
         assert command is not None
-        words = command[1].replace("/run/bank-office", str(self.files.top)).split()
-        door = socket.socket(socket.AF_UNIX)
-        self.socket.unlink(missing_ok=True)
-        door.bind(str(self.socket))
+        words = re.sub("/run/bank-office(-runs)?", str(self.files.top), command[1]).split()
+        door, place = socket.socket(socket.AF_UNIX), self.sockets[name]
+        place.unlink(missing_ok=True)
+        door.bind(str(place))
         door.listen(64)
         hand_over = 'exec 3<&0 </dev/null; export LISTEN_PID=$$ LISTEN_FDS=1; exec "$@"'
         with open(self.files.top / "office.log", "ab") as log, door:
             command_line = ["sh", "-c", hand_over, "sh", *words]
             service = subprocess.Popen(command_line, env=self.environment, stdin=door.fileno(), stdout=log, stderr=log)
-        self.service = service
+        self.services[name] = service
         end = time.monotonic() + PATIENCE
-        while self.branch.ask("amy", "/office/users")[0] != 200:
-            require(time.monotonic() < end and service.poll() is None, True, f"the office answers: {self.log()}")
+        while self.branch.ask(badge, path)[0] != 200:
+            require(time.monotonic() < end and service.poll() is None, True, f"{name} answers: {self.log()}")
             time.sleep(0.1)
 
-    def stop_service(self) -> None:
-        """Ends the service."""
-        if self.service is not None:
-            self.service.terminate()
-            self.service.wait()
-            self.service = None
+    def start_services(self) -> None:
+        """Starts the office, and its runs."""
+        for name, (badge, path) in SERVICES.items():
+            self.start(name, badge, path)
+
+    def stop_services(self) -> None:
+        """Ends all services."""
+        for service in self.services.values():
+            service.terminate()
+            service.wait()
+        self.services.clear()
 
     def log(self) -> str:
         """What the service has said."""
@@ -194,7 +218,7 @@ class Day:
 
     def form(self, who: str, path: str, **fields: str) -> int:
         """A form that a page sends, with its token; a field that begins with @ is a file."""
-        page = self.get(who, "sheets" if path == "sheets" else "runs")
+        page = self.get(who, "runs" if path.startswith("runs") else "")
         token = re.search(r'name="token" value="([^"]+)"', page)
         require(token is not None, True, "the page has a form")
         assert token is not None
@@ -220,9 +244,13 @@ class Day:
         status, text = self.branch.ask(who, f"/office/api/{path}", json.dumps(body), fields)
         return status, json.loads(text)
 
+    def office_command(self, settings: Path) -> list[str]:
+        """The beginning of a command of the office."""
+        return [sys.executable, "-m", "bank_office", "--settings", str(settings)]
+
     def command(self, *arguments: str) -> tuple[int, str]:
         """A command of the office; its status and what it says."""
-        command = [sys.executable, "-m", "bank_office", "--settings", str(self.settings_file), *arguments]
+        command = [*self.office_command(self.settings_file), *arguments]
         ran = subprocess.run(command, env=self.environment, cwd="/", capture_output=True, text=True)
         return ran.returncode, ran.stdout + ran.stderr
 
@@ -251,5 +279,5 @@ class Day:
             browser.close()
         for relay in self.relays:
             relay.shutdown()
-        self.stop_service()
+        self.stop_services()
         self.branch.close()

@@ -49,6 +49,7 @@ def write_lists(folder: Path) -> None:
         "drawer-on": 100_000,
         "drawer-off": 0,
         "move-cash": 100_000,
+        "new-account": 0,
         "balance": 0,
         "statement": 0,
     }

@@ -2,7 +2,9 @@
 import os
 import socket
 
-FOLDERS = ("/var/lib/bank", "/var/lib/bank-copies", "/etc/bank-front", "/var/log/bank-front")
+FOLDERS = ("/var/lib/bank", "/var/lib/bank-copies", "/etc/bank-front", "/var/log/bank-front", "/var/lib/bank-office-runs")
+SOCKETS = ("/run/bank.socket", "/run/bank-office-approvals.socket")
+KEY = "/etc/bank-office/office.key"
 
 
 def tried(what: str, act: object) -> None:
@@ -17,14 +19,17 @@ def tried(what: str, act: object) -> None:
 
 
 def main() -> None:
-    """Tries the bank's socket and files, the copies for writing, and its own folder."""
-    tried("the socket of the bank", lambda: socket.socket(socket.AF_UNIX).connect("/run/bank.socket"))
+    """Tries the sockets of the bank and of approvals, the bank's files and those of runs, the key by which runs act, and the copies
+    for writing."""
+    for place in SOCKETS:
+        tried(place, lambda: socket.socket(socket.AF_UNIX).connect(place))
+    tried(KEY, lambda: open(KEY))
     for folder in FOLDERS:
         tried(folder, lambda: os.listdir(folder))
     tried("the list of badges", lambda: open("/etc/bank-badges.csv"))
     tried("writing a copy", lambda: open("/var/lib/bank-office-copies/present", "r+"))
     tried("the front", lambda: socket.create_connection(("127.0.0.1", 443), 5))
-    print("groups", os.getgroups() == [os.getgid()], os.listdir("/var/lib/bank-office-copies"), flush=True)
+    print("copies", os.listdir("/var/lib/bank-office-copies"), flush=True)
 
 
 main()

@@ -1,4 +1,5 @@
 """The office in Chromium: names and queue on the teller's page, an amount in parts, and the office's own pages."""
+import datetime
 import signal
 
 from branches import require
@@ -11,6 +12,7 @@ from odd_names import ODD_NAMES
 # What a name would be, taken for markup, on a page that has forms of its own.
 OWN_MARKUP = "return [...document.querySelectorAll('img, script, svg, iframe, main b')].map(it => it.outerHTML)"
 PARTS = [999_999, 999_999, 500_002]
+YESTERDAY = datetime.date.today() - datetime.timedelta(1)
 
 
 def opened(day: Day, who: str, **place: str) -> Browser:
@@ -61,11 +63,12 @@ def release_on_the_page(day: Day) -> None:
     amy.press("Ask for a release")
     sue.until_text("#asks", "Amy Ångström asks for a release: Deposit of 1,500.00, account 103", ODD_NAMES[2])
     sue.press("Give the release", "#asks button")
-    # Of the release before, which was used without this page, nothing more is wanted.
+    # Of the releases before, which were used without this page, nothing more is wanted.
     amy.until_text("#asks", "Send it with release 1")
-    amy.press("Seen", "#asks [data-ask='1'] button")
+    for ask in (1, 2):
+        amy.press("Seen", f"#asks [data-ask='{ask}'] button")
     amy.js("document.getElementById('outcome').replaceChildren()")
-    amy.press("Send it with release 2", "#asks button")
+    amy.press("Send it with release 4", "#asks button")
     amy.outcome("Done", "Deposit of 1,500.00, account 103")
     with day.rows() as found:
         got = found.execute("SELECT count(*) FROM entries WHERE account = 103 AND delta = 150000").fetchone()[0]
@@ -99,8 +102,8 @@ def pages(day: Day) -> None:
     """The office's own pages: no script, nothing blocked, names as text; a day book and a statement are printed."""
     kim = Browser(day.relays[3], day.files.top / "browser-kim")
     day.browsers.append(kim)
-    for who, path, text in (("kim", "office/?q=bold", "<b>Bold</b>"), ("kim", "office/changes", "Robert'); DROP TABLE holders;--"),
-                            ("sue", "office/days/1/2", "It agrees with the day's proof"), ("sue", "office/statements?account=101&first=2025-01-01&last=2027-01-01", "closing")):  # fmt: skip
+    for who, path, text in (("kim", "office/holders/23", "<b>Bold</b>"), ("kim", "office/changes", "Robert'); DROP TABLE holders;--"),
+                            ("sue", "office/days/1/2", "It agrees with the day's proof"), ("sue", f"office/statements?account=101&first=2025-06-02&last={YESTERDAY}", "Closing balance")):  # fmt: skip
         day.relays[3].card = who
         kim.driver.get(kim.url + path)
         kim.until_text("main", text)

@@ -7,20 +7,25 @@ import os
 import re
 import signal
 import subprocess
+import threading
 import time
+from concurrent.futures import ThreadPoolExecutor
 from pathlib import Path
 from typing import Any
-from urllib.parse import quote
 
 from branches import require
 from day import Day
 
 from bank_office import carry, register, runs, sheets
+from bank_office.runs_file import opened_runs
 from bank_office.store import opened
 from odd_names import ODD_NAMES
 
 THIS_YEAR, TODAY = f"{datetime.date.today().year}-01-01", datetime.date.today()
 YESTERDAY = TODAY - datetime.timedelta(1)
+# The first day of the bank, which is all of its first year, and the name of that year in the office.
+BEGAN = datetime.date(2025, 6, 2)
+FIRST_YEAR = f"{BEGAN}-to-{BEGAN}"
 
 
 def absent(day: Day) -> None:
@@ -32,9 +37,10 @@ def absent(day: Day) -> None:
 def first_night(day: Day) -> None:
     """Copies come, also of the closed year, and the service reads them; nobody without a certificate reaches it."""
     day.night()
-    require(sorted(it.name for it in day.copies.iterdir()), ["badges.csv", "present", "years"], "what is handed")
-    require([it.name for it in (day.copies / "years").iterdir()], ["2025"], "years")
-    day.start_service()
+    found = sorted(it.name for it in day.copies.iterdir() if not it.name.startswith("handed-"))
+    require(found, ["badges.csv", "handed", "present", "years"], "what is handed")
+    require([it.name for it in (day.copies / "years").iterdir()], [FIRST_YEAR], "years")
+    day.start_services()
     require(json.loads(day.get("kim", "api/here")), {"approver": False, "badge": "kim", "keeper": True}, "who asks")
     require(day.branch.ask(None, "/office/"), (403, '{"front":"certificate"}'), "without a certificate")
     require(
@@ -43,13 +49,17 @@ def first_night(day: Day) -> None:
     for fields in (("Origin: https://other.example",), ("Sec-Fetch-Site: cross-site",)):
         require(day.branch.ask("kim", "/office/", fields=fields), (403, '{"front":"other site"}'), fields[0])
     require(day.branch.ask("kim", "/office/", fields=("Desk-Badge: amy",)), (412, '{"front":"other badge"}'), "another card")
+    for who, path in (("kim", ""), ("sue", "runs"), ("kim", "api/here"), ("amy", "sheets")):
+        head = day.branch.ask(who, f"/office/{path}", more=("-D", "-"))[1].partition("\n\n")[0].lower()
+        for field in ("cross-origin-opener-policy: same-origin", "permissions-policy: camera=()"):
+            require(field in head, True, f"{field} on {path}")
 
 
 def names(day: Day) -> None:
     """Forty odd names go in by CSV, are found and shown, and come out equal; a bad sheet is refused by its line."""
-    rows = [(number, name, "Main Street 1", "", "", "") for number, name in enumerate(ODD_NAMES, 1)]
+    rows = [register.Holder(number, name, "Main Street 1") for number, name in enumerate(ODD_NAMES, 1)]
     sheet = day.files.top / "holders.csv"
-    sheet.write_text(sheets.sheet_text(register.Holder._fields, rows), newline="")
+    sheet.write_text(sheets.sheet_text(register.Holder._fields[:6], (it[:6] for it in rows)), newline="")
     require(day.form("kim", "sheets", name="holders", file=f"@{sheet}"), 303, "import of holders")
     sheet.write_text("account,holder,may\n" + "".join(f"{100 + number},{number},owns\n" for number in range(1, len(rows) + 1)))
     require(day.form("kim", "sheets", name="holdings", file=f"@{sheet}"), 303, "import of holdings")
@@ -59,7 +69,7 @@ def names(day: Day) -> None:
         shown = json.loads(day.get("amy", f"api/names?accounts={100 + number}"))["accounts"]
         require(shown, {str(100 + number): [name]}, f"the name of {100 + number}")
         word = max(register.asked_words(name), key=len)
-        found = [it["name"] for it in json.loads(day.get("amy", f"api/search?q={quote(word)}"))["holders"]]
+        found = [it["name"] for it in day.api("amy", "search", {"q": word})[1]["holders"]]
         require(name in found, True, f"{name} by {word}: {found}")
     sheet.write_text("holder,name,address,document,note,since\n60,Good,,,,\n61,,,,,\n")
     require(day.form("kim", "sheets", name="holders", file=f"@{sheet}"), 422, "a bad sheet")
@@ -78,23 +88,45 @@ def who_sees(day: Day) -> None:
     day.get("kim", f"statements?account=101&first={THIS_YEAR}&last={TODAY}", 403)
 
 
+def asked(day: Day, *operations: dict[str, Any]) -> int:
+    """The number of a request of Amy that waits for a release."""
+    status, one = day.api("amy", "asks", {"wish": "release", "operations": list(operations)})
+    require((status, one.get("state")), (200, "waiting"), f"asked for: {one}")
+    return int(one["ask"])
+
+
+def of_amy(day: Day, number: int) -> dict[str, Any]:
+    """A request as Amy sees it."""
+    found: dict[str, Any] = next(it for it in json.loads(day.get("amy", "api/queue"))["mine"] if it["ask"] == number)
+    return found
+
+
+def released(day: Day, who: str, number: int) -> list[int]:
+    """What a supervisor's page does: it claims a request, and asks the bank for a release of each operation if the claim is its own.
+    The answer follows later."""
+    status, one = day.api(who, f"asks/{number}/claim", {})
+    if status != 200:
+        require((status, "claimed by" in one["office"]), (409, True), f"{who} does not have it: {one}")
+        return []
+    return [day.do(who, "release", beneficiary=one["user"], operation=it)["release"] for it in one["operations"]]
+
+
 def release(day: Day) -> None:
     """A request above Amy's limit waits in the queue, is released by Sue at the bank, and goes on by the number."""
     body: dict[str, Any] = {"account": 103, "branch": 1, "delta": 150_000, "teller": 11}
     require(day.branch.ask("amy", "/do/post", body), (403, '{"name":"limit","rule":4}'), "above the limit")
-    status, asked = day.api("amy", "asks", {"wish": "release", "operation": dict(body, procedure="post")})
-    require((status, asked["state"]), (200, "waiting"), "asked for")
+    number = asked(day, dict(body, procedure="post"))
     require(json.loads(day.get("ben", "api/queue"))["waiting"], [], "what waits for a teller")
     waiting = json.loads(day.get("sue", "api/queue"))["waiting"]
     require(
         [(it["ask"], it["user"], it["name"], it["names"]) for it in waiting],
-        [(asked["ask"], 7, "Amy Ångström", {"103": [ODD_NAMES[2]]})],
+        [(number, 7, "Amy Ångström", {"103": [ODD_NAMES[2]]})],
         "what waits",
     )
-    given = day.do("sue", "release", beneficiary=waiting[0]["user"], operation=waiting[0]["operation"])
-    require(day.api("sue", f"asks/{asked['ask']}/answer", {"number": given["release"]})[0], 200, "answered")
-    mine = json.loads(day.get("amy", "api/queue"))["mine"][0]
-    require((mine["state"], mine["answerer"]), ("done", "sue"), "what Amy sees")
+    given = released(day, "sue", number)
+    require(day.api("sue", f"asks/{number}/answer", {"number": given[0]})[0], 200, "answered")
+    mine = of_amy(day, number)
+    require((mine["state"], mine["answerer"], mine["releases"]), ("done", "sue", given), "what Amy sees")
     day.do("amy", "post", (f"Bank-Release: {mine['number']}",), **body)
     require(day.branch.ask("amy", "/do/post", body, (f"Bank-Release: {mine['number']}",))[0], 403, "the same again")
     paths = {it["path"] for it in day.branch.audit()}
@@ -103,6 +135,34 @@ def release(day: Day) -> None:
         (True, False),
         "the audit trail has requests, and not each look",
     )
+
+
+def one_release(day: Day) -> None:
+    """Two supervisors press at once, and the bank gives one release for each part; what is taken back between release and answer
+    waits for the answer, and money is moved once."""
+    parts = [{"procedure": "transfer", "amount": 150_000 + it, "branch": 1, "source": 900, "target": 107, "teller": 11} for it in (0, 1)]
+    number, gate = asked(day, *parts), threading.Barrier(2)
+
+    def press(who: str) -> list[int]:
+        gate.wait()
+        return released(day, who, number)
+
+    with ThreadPoolExecutor() as pool:
+        given = dict(zip(("sue", "sam"), pool.map(press, ("sue", "sam"))))
+    require(sorted(map(len, given.values())), [0, 2], f"releases by each: {given}")
+    giver = max(given, key=lambda it: len(given[it]))
+    status, one = day.api("amy", f"asks/{number}/withdraw", {})
+    require((status, one["state"], one["taken_back"]), (200, "claimed", True), "taken back between release and answer")
+    require(day.api(giver, f"asks/{number}/answer", {"releases": given[giver]})[0], 200, "the answer is taken")
+    mine = of_amy(day, number)
+    require((mine["state"], mine["releases"]), ("done", given[giver]), "Amy learns which releases stand")
+    for it, part in zip(mine["releases"], parts):
+        body = {name: value for name, value in part.items() if name != "procedure"}
+        day.do("amy", "transfer", (f"Bank-Release: {it}",), **body)
+        require(day.branch.ask("amy", "/do/transfer", body, (f"Bank-Release: {it}",))[0], 403, "the same again")
+    with day.rows() as found:
+        got = found.execute("SELECT count(*), sum(delta) FROM entries WHERE account = 107").fetchone()
+        require((got, found.execute("SELECT count(*) FROM releases").fetchone()[0]), ((2, 300_001), 3), "moved once, by as many releases")
 
 
 def entries(day: Day) -> None:
@@ -161,14 +221,18 @@ def sum_of(pairs: list[tuple[str, int]]) -> int:
 
 
 def two_years(day: Day) -> None:
-    """A statement over two years, by the balances of the files of both."""
-    rows = list(
-        csv.DictReader(io.StringIO(day.get("amy", f"statements.csv?account=101&first=2025-01-01&last={TODAY}"), newline=""))
-    )
+    """A statement over two years, by the balances of the files of both; none of a day that is not over, or before the first."""
+    asked = f"statements.csv?account=101&first={BEGAN}&last={TODAY}"
+    require("is not over by the newest copy" in day.get("amy", asked, 422), True, "today")
+    require(f"first day is {BEGAN}" in day.get("amy", asked.replace(str(BEGAN), "2025-06-01"), 422), True, "the day before the first")
+    made = (day.copies / "present").stat().st_mtime
+    os.utime(day.copies / "present", (made + 86_400,) * 2)  # as the copy of the next night
+    rows = list(csv.DictReader(io.StringIO(day.get("amy", asked), newline="")))
+    os.utime(day.copies / "present", (made,) * 2)
     require([(it["year"], it["amount"], it["balance"]) for it in rows], [
-        ("", "", "500.00"), ("2025", "25.00", "525.00"), ("2025", "-3.00", "522.00"), ("present", "10.00", "532.00"), ("present", "-7.00", "525.00")],
+        ("", "", "500.00"), (FIRST_YEAR, "25.00", "525.00"), (FIRST_YEAR, "-3.00", "522.00"), ("", "10.00", "532.00"), ("", "-7.00", "525.00")],
         "the statement")  # fmt: skip
-    page = day.get("amy", "statements?account=101&first=2025-01-01&last=2025-12-31")
+    page = day.get("amy", f"statements?account=101&first={BEGAN}&last=2025-12-31")
     require("522.00" in page and "532.00" not in page, True, "the first year alone")
 
 
@@ -201,17 +265,17 @@ def approved_run(day: Day, kind: str, first: datetime.date, last: datetime.date)
 
 def interest(day: Day) -> None:
     """An interest run is killed in its midst, and run again: each account gets it once."""
-    run = approved_run(day, "interest", datetime.date(2025, 6, 1), YESTERDAY)
-    with opened(day.settings.file) as found:
+    run = approved_run(day, "interest", BEGAN, YESTERDAY)
+    with opened_runs(day.settings) as found:
         lines = runs.lines_of(found, run)
     require(len(lines), 49, "an account each")
     child = os.fork()
     if child == 0:
-        with opened(day.settings.file) as found:
+        with opened_runs(day.settings) as found:
             carry.carry_out(found, Cut(day, 20), run)
         os._exit(0)
     require(os.waitpid(child, 0)[1], signal.SIGKILL, "the run is killed")
-    with opened(day.settings.file) as found:
+    with opened_runs(day.settings) as found:
         require(sum(it.state == "done" for it in runs.lines_of(found, run)), 19, "kept when it was killed")
     require(day.command("carry-out"), (0, f"run {run}: 49 done, 0 refused\n"), "run again")
     require(day.command("carry-out"), (0, ""), "and once more")
@@ -220,9 +284,9 @@ def interest(day: Day) -> None:
             "SELECT account, count(*), sum(delta) FROM entries WHERE user_no = 50 AND account != 900 GROUP BY account"
         ).fetchall()
     require(got, [(it.account, 1, it.amount) for it in lines], "accounts, entries and interest")
-    days = (YESTERDAY - datetime.date(2025, 6, 2)).days + 1
-    # From 2 June 2025 on 102 had 500.00 - 7.00 + 3.00 until today, and the day before 500.00.
-    due = (2 * (50_000 + 49_600 * days) * 12_500 + 365 * 10**6) // (2 * 365 * 10**6)
+    days = (YESTERDAY - BEGAN).days + 1
+    # From 2 June 2025 on 102 had 500.00 - 7.00 + 3.00 until today.
+    due = (2 * (49_600 * days) * 12_500 + 365 * 10**6) // (2 * 365 * 10**6)
     require([it.amount for it in lines if it.account == 102], [due], "the interest of 102")
 
 
@@ -237,7 +301,7 @@ def in_parts(day: Day) -> None:
                 day.branch.signal_bank(signal.SIGKILL)
             return reply
 
-    with opened(day.settings.file) as found:
+    with opened_runs(day.settings) as found:
         require(carry.carry_out(found, Killing(day.settings, pause=0.2), run), (3, 0), "three parts")
     with day.rows() as found:
         got = [it[0] for it in found.execute("SELECT delta FROM entries WHERE account = 150 ORDER BY turn")]
@@ -245,46 +309,53 @@ def in_parts(day: Day) -> None:
     require(("1 of 3" in day.get("sue", f"runs/{run}"), sum(got)), (True, -2_500_000), "shown as parts of one amount")
 
 
+HIDDEN = ("/run/bank.socket", "/var/lib/bank", "/var/lib/bank-copies", "/etc/bank-front")
+OF_RUNS = ("/etc/bank-office/office.key", "/var/lib/bank-office-runs", "/run/bank-office-approvals.socket")
+
+
+def of_unit(text: str, *names: str) -> list[str]:
+    """All that a unit has under these names."""
+    return " ".join(re.findall(rf"^(?:{'|'.join(names)})=(.*)$", text, re.MULTILINE)).split()
+
+
 def apart(day: Day) -> None:
-    """The unit of the office can't reach the bank's socket or files, and its user is in none of the bank's groups."""
+    """The units of the office can't reach the bank's socket or files, its user is in none of the bank's groups, and those of the
+    office's own user reach nothing of runs."""
     units = day.files.top / "office-code/units"
-    for name in ("bank-office.service", "bank-office-runs.service"):
-        unit = (units / name).read_text()
-        hidden = " ".join(re.findall(r"^InaccessiblePaths=(.*)$", unit, re.MULTILINE)).split()
-        for path in ("/run/bank.socket", "/var/lib/bank", "/var/lib/bank-copies", "/etc/bank-front"):
-            require(f"-{path}" in hidden, True, f"{name} hides {path}")
-        require(
-            re.findall(r"^(?:User|Group|SupplementaryGroups)=(.*)$", unit, re.MULTILINE),
-            ["bank-office"] * 2,
-            f"{name}: user and groups",
-        )
+    for name, user, hidden in (("bank-office", "bank-office", OF_RUNS), ("bank-office-save", "bank-office", OF_RUNS),
+                               ("bank-office-approvals", "bank-office-runs", OF_RUNS[:1]), ("bank-office-runs", "bank-office-runs", ())):  # fmt: skip
+        unit = (units / f"{name}.service").read_text()
+        inaccessible = of_unit(unit, "InaccessiblePaths")
+        require([it for it in (*HIDDEN, *hidden) if f"-{it}" not in inaccessible], [], f"what {name} can reach")
+        require(of_unit(unit, "User", "Group"), [user] * 2, f"{name}: user and group")
+        require(of_unit(unit, "SupplementaryGroups"), ["bank-office"] if user != "bank-office" else [], f"{name}: groups")
     require(
         re.findall(r"^[um]\s+(\S+)\s+(\S+)", (day.files.top / "tespiorvu-office.sysusers").read_text(), re.MULTILINE),
-        [("bank-office", "-")],
+        [("bank-office", "-"), ("bank-office-runs", "-"), ("bank-office-runs", "bank-office")],
         "sysusers",
     )
-    require(
-        re.findall(r"^Socket(?:User|Group|Mode)=(.*)$", (units / "bank-office.socket").read_text(), re.MULTILINE),
-        ["bank-front", "0660"],
-        "who opens its socket",
-    )
+    for name in ("bank-office", "bank-office-approvals"):
+        sockets = of_unit((units / f"{name}.socket").read_text(), "SocketUser", "SocketGroup", "SocketMode")
+        require(sockets, ["bank-front", "0660"], f"who opens the socket of {name}")
 
 
 def killed(day: Day) -> None:
     """A service that is killed leaves the counter working, and starts with all it kept."""
-    assert day.service is not None
     before = day.get("kim", "sheets/holders.csv")
-    subprocess.run(["kill", "-9", str(day.service.pid)], check=True)
-    day.service.wait()
-    day.service = None
+    service = day.services.pop("bank-office")
+    service.kill()
+    service.wait()
     end = time.monotonic() + 60
     while day.branch.ask("amy", "/office/users")[0] == 200:  # until its workers have seen that
         require(time.monotonic() < end, True, "the workers end")
         time.sleep(0.2)
     require(day.branch.ask("amy", "/do/balance", {"account": 101})[0], 200, "the counter works")
-    day.start_service()
+    require(day.branch.ask("sue", "/office/runs")[0], 200, "runs go on")
+    day.start("bank-office", "amy", "/office/users")
     require(day.get("kim", "sheets/holders.csv"), before, "what it kept")
+    for what in ("register", "runs"):
+        require(day.command("save", what)[0], 0, f"the copy of {what}")
     status, said = day.command("save")
     require(status, 0, said)
-    with opened(Path(said.strip())) as found:
+    with opened(Path(said.splitlines()[0])) as found:
         require(sheets.exported(found, "holders").replace("\r\n", "\n"), before, "the copy")

@@ -16,6 +16,8 @@ CREATE TABLE branches (branch INTEGER PRIMARY KEY, opening INTEGER NOT NULL, cas
     history INTEGER NOT NULL, drawers INTEGER NOT NULL, cash_entries INTEGER NOT NULL, differences INTEGER NOT NULL) STRICT;
 CREATE TABLE accounts (account INTEGER PRIMARY KEY, home INTEGER NOT NULL, opening INTEGER NOT NULL, floor INTEGER NOT NULL,
     balance INTEGER NOT NULL, turns INTEGER NOT NULL) STRICT;
+CREATE TABLE tellers (teller INTEGER PRIMARY KEY, branch INTEGER NOT NULL, opening INTEGER NOT NULL, balance INTEGER NOT NULL,
+    cash INTEGER NOT NULL, holder INTEGER NOT NULL) STRICT;
 CREATE TABLE entries (branch INTEGER NOT NULL, number INTEGER NOT NULL, account INTEGER NOT NULL, turn INTEGER NOT NULL,
     teller INTEGER NOT NULL, delta INTEGER NOT NULL, moment INTEGER NOT NULL, day INTEGER NOT NULL, user_no INTEGER NOT NULL,
     form INTEGER NOT NULL, partner INTEGER NOT NULL, undoes INTEGER NOT NULL, balance_after INTEGER NOT NULL,
@@ -25,10 +27,19 @@ CREATE TABLE lines (branch INTEGER NOT NULL, number INTEGER NOT NULL, place INTE
     PRIMARY KEY (branch, number)) STRICT;
 CREATE TABLE proofs (branch INTEGER NOT NULL, day INTEGER NOT NULL, entries INTEGER NOT NULL, balance INTEGER NOT NULL,
     cash INTEGER NOT NULL, PRIMARY KEY (branch, day)) STRICT;
-CREATE TABLE slips (user_no INTEGER NOT NULL, slip INTEGER NOT NULL, PRIMARY KEY (user_no, slip)) STRICT;
+CREATE TABLE releases (user_no INTEGER NOT NULL, number INTEGER NOT NULL, giver INTEGER NOT NULL, branch INTEGER NOT NULL,
+    day INTEGER NOT NULL, form INTEGER NOT NULL, member1 INTEGER NOT NULL DEFAULT 0, member2 INTEGER NOT NULL DEFAULT 0,
+    member3 INTEGER NOT NULL DEFAULT 0, member4 INTEGER NOT NULL DEFAULT 0, member5 INTEGER NOT NULL DEFAULT 0,
+    member6 INTEGER NOT NULL DEFAULT 0, member7 INTEGER NOT NULL DEFAULT 0, member8 INTEGER NOT NULL DEFAULT 0,
+    used INTEGER NOT NULL, PRIMARY KEY (user_no, number)) STRICT;
+CREATE TABLE slips (user_no INTEGER NOT NULL, slip INTEGER NOT NULL, form INTEGER NOT NULL DEFAULT 1, member1 INTEGER NOT NULL DEFAULT 0,
+    member2 INTEGER NOT NULL DEFAULT 0, member3 INTEGER NOT NULL DEFAULT 0, member4 INTEGER NOT NULL DEFAULT 0,
+    member5 INTEGER NOT NULL DEFAULT 0, member6 INTEGER NOT NULL DEFAULT 0, member7 INTEGER NOT NULL DEFAULT 0,
+    member8 INTEGER NOT NULL DEFAULT 0, reply BLOB NOT NULL DEFAULT x'', PRIMARY KEY (user_no, slip)) STRICT;
 """
 # Accounts by their branch: three each, and one that pays interest.
 BRANCHES = {1: (101, 102, 103, 900), 2: (201, 202, 203)}
+TELLERS = {11: 1, 12: 1, 90: 1, 21: 2}
 OPENING, VAULT = 50_000, 1_000_000
 
 
@@ -40,6 +51,7 @@ class BankFile:
         self.bank.executescript("PRAGMA synchronous = OFF; PRAGMA journal_mode = OFF;" + TABLES)
         self.file, self.moment = file, int(time.time())
         self.bank.execute("INSERT INTO bank VALUES (1, 3, 0)")
+        self.bank.executemany("INSERT INTO tellers VALUES (?, ?, 0, 0, 0, 0)", TELLERS.items())
         for branch, accounts in BRANCHES.items():
             own = {it: (openings or {}).get(it, OPENING) for it in accounts}
             total = sum(own.values())
@@ -56,15 +68,23 @@ class BankFile:
         number: int = self.bank.execute(text, given).fetchone()[0]
         return number
 
-    def grant(self, user: int, procedures: list[int], ranges: list[tuple[int, int, int]], ceiling: int = 999_999) -> None:
-        """A user, a set of these ranges, and triples of the user for procedures on it."""
+    def grant(
+        self,
+        user: int,
+        procedures: list[int],
+        ranges: list[tuple[int, int, int]],
+        ceiling: int = 999_999,
+        first: int = 0,
+        last: int = 99_999_999_999,
+    ) -> None:
+        """A user, a set of these ranges, and triples of the user for procedures on it, valid from the first moment to the last."""
         self.bank.execute("INSERT OR IGNORE INTO users VALUES (?, 'U', 0, 0, 1, 1, 0)", (user,))
         number = self.one("SELECT coalesce(max(set_no), 0) + 1 FROM members")
         self.bank.executemany(
             "INSERT INTO members VALUES (?, ?, ?, ?, ?)", [(number, place, *it) for place, it in enumerate(ranges, 1)]
         )
         self.bank.executemany(
-            "INSERT INTO grants VALUES (?, ?, ?, ?, 0, 99999999999)", [(user, it, number, ceiling) for it in procedures]
+            "INSERT INTO grants VALUES (?, ?, ?, ?, ?, ?)", [(user, it, number, ceiling, first, last) for it in procedures]
         )
 
     def entry(

@@ -8,18 +8,22 @@ from typing import Any
 import hypothesis
 import pytest
 
-sys.path[:0] = [str(Path(__file__).resolve().parent.parent), str(Path(__file__).resolve().parent)]
+HERE = Path(__file__).resolve().parent
+# The branch's package has what the office replays the policy's log by.
+sys.path[:0] = [str(HERE.parent), str(HERE), str(HERE.parents[1] / "branch")]
 
 from bank_file import BankFile
+from bank_office.runs_file import opened_runs
 from bank_office.settings import Scheme, Settings
 from bank_office.store import opened
 from bank_office.web import make_app
+from bank_office.web_runs import make_runs_app
 
 hypothesis.settings.register_profile("office", database=None, deadline=None)
 hypothesis.settings.load_profile("office")
 EVERYTHING = [(1, 1, 999_999), (2, 1, 999), (3, 1, 99), (4, 1, 99), (5, 1, 999), (6, 1, 99)]
 BRANCH_1 = [(1, 101, 199), (2, 11, 12), (3, 1, 1), (4, 1, 1), (5, 11, 12), (6, 1, 1)]
-BADGES = {"kim": 3, "tess": 7, "tom": 8, "sue": 9, "sam": 10, "office": 50}
+BADGES = {"carl": 2, "kim": 3, "tess": 7, "tom": 8, "sue": 9, "sam": 10, "sam2": 10, "office": 50}
 
 
 class Office:
@@ -33,10 +37,14 @@ class Office:
             folder / "office",
             self.copies,
             frozenset({"kim"}),
-            frozenset({"sue", "sam"}),
+            frozenset({"sue", "sam", "sam2", "carl"}),
+            runs=folder / "runs-of-their-own" / "runs",
+            trail=folder / "trail",
+            morning=folder / "morning",
             schemes=(Scheme("interest", 1, 101, 199, 900, 90, millionths=12_500), Scheme("fee", 1, 101, 199, 900, 90, cents=250)),
         )
-        self.app = make_app(self.settings)
+        self.settings.runs.parent.mkdir()
+        self.app, self.runs_app = make_app(self.settings), make_runs_app(self.settings)
 
     def bank(self, name: str = "present", openings: dict[int, int] | None = None) -> BankFile:
         """A bank whose file is a copy."""
@@ -48,14 +56,14 @@ class Office:
         return bank
 
     def ask(self, badge: str, path: str, method: str = "GET", **more: Any) -> Any:
-        """A request of a badge's browser."""
-        return self.app.test_client().open(path, method=method, headers={"Bank-Badge": badge, **more.pop("headers", {})}, **more)
+        """A request of a badge's browser, by the one or the other service, as the front leads it."""
+        app = self.runs_app if path.startswith("/office/runs") else self.app
+        return app.test_client().open(path, method=method, headers={"Bank-Badge": badge, **more.pop("headers", {})}, **more)
 
     def form(self, badge: str, path: str, **fields: Any) -> Any:
         """A form of a page, with its token."""
-        token = re.search(r'name="token" value="([^"]+)"', self.ask(badge, "/office/users").text) or re.search(
-            r'name="token" value="([^"]+)"', self.ask(badge, "/office/runs").text
-        )
+        page = "/office/runs" if path.startswith("/office/runs") else "/office/"
+        token = re.search(r'name="token" value="([^"]+)"', self.ask(badge, page).text)
         return self.ask(badge, path, "POST", data={"token": token[1] if token else "", **fields})
 
     def api(self, badge: str, path: str, body: Any) -> Any:
@@ -65,6 +73,10 @@ class Office:
     def opened(self) -> Any:
         """The office's file."""
         return opened(self.settings.file)
+
+    def opened_runs(self) -> Any:
+        """The file of runs."""
+        return opened_runs(self.settings)
 
 
 @pytest.fixture

@@ -1,10 +1,14 @@
 """Day books, the ledger and camt.053 over random days: sums are the proof's, debits equal credits; statements over years."""
 import datetime
+import os
+import pwd
+import re
 import shutil
 import sqlite3
 import subprocess
 import tempfile
 import time
+from contextlib import ExitStack
 from pathlib import Path
 from xml.etree import ElementTree
 
@@ -12,6 +16,8 @@ import pytest
 from bank_file import BRANCHES, OPENING, BankFile
 from bank_office import books, camt, ledger, statements
 from bank_office.copies import Copies, Copy, opened_copy
+from bank_office.languages import language_of
+from bank_office.reasons import Reason
 from bank_office.store import Refused
 from conftest import Office
 from hypothesis import given, settings, strategies
@@ -135,7 +141,7 @@ def test_camt_is_of_its_schema_and_adds_up(tmp_path: Path) -> None:
     bank.close_day(1)
     bank.close()
     with Copies(tmp_path).present() as copy:
-        text = camt.statement_xml(books.day_book(copy, 1, 1), "EUR", copy.made, "2026-11-29")
+        text = camt.statement_xml(books.day_book(copy, 1, 1, books.years_of([copy])[0]), "EUR", copy.made, "2026-11-29")
     assert (ran := validated(text)).returncode == 0, ran.stderr
     names = {"c": camt.NAMESPACE}
     sides = {"CRDT": 1, "DBIT": -1}
@@ -146,6 +152,13 @@ def test_camt_is_of_its_schema_and_adds_up(tmp_path: Path) -> None:
         return sides[str(side.text)] * round(float(str(number.text)) * 100)
 
     root = ElementTree.fromstring(text)
+    year = datetime.date.today().year
+    first = root.find(".//c:Ntry", names)
+    assert first is not None
+    assert [first.findtext(it, "", names) for it in ("c:NtryRef", "c:AcctSvcrRef", "c:BookgDt/c:Dt", "c:BkTxCd/c:Prtry/c:Cd")] == [
+        f"{year}-1-1", f"{year}-1-1", datetime.date.today().isoformat(), "DEPOSIT"]  # fmt: skip
+    assert first.findtext(".//c:Dbtr/c:Pty/c:Nm", "", names) == "ACCOUNT 101", "who pays in is the other side of a credit"
+    assert first.findtext("c:AddtlNtryInf", "", names).startswith("deposit, account 101")
     opening, closing = (signed(it) for it in root.iterfind(".//c:Bal", names))
     assert opening + sum(signed(it) for it in root.iterfind(".//c:Ntry", names)) == closing
     for old, new in (
@@ -155,6 +168,47 @@ def test_camt_is_of_its_schema_and_adds_up(tmp_path: Path) -> None:
         ("<Id>BRANCH", f"<Id>{'x' * 40}"),
     ):
         assert validated(text.replace(old, new, 1)).returncode != 0, old
+
+
+def test_camt_is_in_the_readers_language_and_a_run_has_its_name_and_value_date(tmp_path: Path) -> None:
+    bank = BankFile(tmp_path / "present")
+    live(bank, [("transfer", (900, 101), 77), ("correct", 0, 0)])
+    bank.close_day(1)
+    bank.close()
+    reason = Reason("interest", "2026-02-01", "2026-02-28", "interest of 0.77 at 1.25 %")
+    with Copies(tmp_path).present() as copy:
+        text = camt.statement_xml(books.day_book(copy, 1, 1, "2026"), "EUR", copy.made, "2026-11-29", language_of("de"), {("present", 1, 2): reason})
+    names, today = {"c": camt.NAMESPACE}, datetime.date.today().isoformat()
+    wanted = ("c:BookgDt/c:Dt", "c:ValDt/c:Dt", "c:AddtlNtryInf", ".//c:AddtlTxInf", ".//c:Pty/c:Nm", "c:BkTxCd/c:Prtry/c:Cd")
+    found = [[it.findtext(name, "", names) for name in wanted] for it in ElementTree.fromstring(text).iterfind(".//c:Ntry", names)]
+    paid = "Zinsen 0,77 zu 1,25\u00a0%, Konto 101, Schalter 11, Benutzer 7"
+    assert found[0] == [today, today, *["Umbuchung, Konto 900, Schalter 11, Benutzer 7"] * 2, "KONTO 900", "TRANSFER"]
+    assert found[1] == [today, "2026-02-28", paid, paid, "KONTO 101", "TRANSFER"]
+    if shutil.which("xmllint"):
+        assert (ran := validated(text)).returncode == 0, ran.stderr
+
+
+@pytest.mark.skipif(not shutil.which("aqbanking-cli"), reason="there is no aqbanking-cli (package aqbanking-tools)")
+def test_an_importer_has_date_and_text_of_all_entries(tmp_path: Path) -> None:
+    bank = BankFile(tmp_path / "present")
+    live(bank, [("post", 101, 250), ("post", 201, -300), ("transfer", (101, 202), 100), ("correct", 0, 0)])
+    bank.close_day(1)
+    entries = bank.one("SELECT count(*) FROM entries WHERE branch = 1")
+    bank.close()
+    with Copies(tmp_path).present() as copy:
+        text = camt.statement_xml(books.day_book(copy, 1, 1, "2026"), "EUR", copy.made, "2026-11-29")
+    (tmp_path / "day.xml").write_text(text, encoding="utf-8")
+    given = ["--importer=xml", "--profile=camt_053_001_04", "-f", str(tmp_path / "day.xml"), "-c", str(tmp_path / "found")]
+    left = Path(pwd.getpwuid(os.getuid()).pw_dir, ".aqbanking")  # which it makes whatever HOME is
+    had = left.exists()
+    try:
+        subprocess.run(["aqbanking-cli", "-D", str(tmp_path / "own"), "import", *given], capture_output=True, check=True)
+    finally:
+        if not had:
+            shutil.rmtree(left, ignore_errors=True)
+    found = (tmp_path / "found").read_text(encoding="utf-8").split("transaction {")[1:]
+    today = datetime.date.today().strftime("%Y%m%d")
+    assert len(found) == entries and all(f'char date="{today}"' in it and re.search('purpose="(deposit|withdrawal|transfer|correction), account', it) for it in found)
 
 
 def two_years(office: Office) -> tuple[int, int]:
@@ -175,7 +229,7 @@ def two_years(office: Office) -> tuple[int, int]:
 def test_a_statement_goes_over_two_years(office: Office) -> None:
     two_years(office)
     copies = Copies(office.copies)
-    found = statements.statement(copies, 101, datetime.date(2025, 1, 1), datetime.date(2026, 12, 31))
+    found = statements.statement(copies, 101, datetime.date(2025, 6, 1), datetime.date(2026, 3, 31))
     assert (found.opening, [(it.copy, it.entry.delta) for it in found.lines], found.closing) == (
         OPENING,
         [("2025", 1_000), ("2025", -300), ("present", -200)],
@@ -184,8 +238,19 @@ def test_a_statement_goes_over_two_years(office: Office) -> None:
     assert found.lines[1].entry.other == 102
     middle = statements.statement(copies, 101, datetime.date(2025, 6, 2), datetime.date(2026, 2, 28))
     assert (middle.opening, middle.lines, middle.closing) == (OPENING + 700, [], OPENING + 700)
-    early = statements.statement(copies, 101, datetime.date(2024, 1, 1), datetime.date(2024, 12, 31))
-    assert (early.opening, early.lines, early.closing) == (OPENING, [], OPENING)
+    for first, last, why in (
+        (datetime.date(2025, 5, 31), datetime.date(2025, 12, 31), "first day is 2025-06-01"),
+        (datetime.date(2026, 1, 1), datetime.date.today(), "is not over by the newest copy"),
+        (datetime.date(2026, 3, 2), datetime.date(2026, 3, 1), "is after"),
+    ):
+        with pytest.raises(Refused, match=why):
+            statements.statement(copies, 101, first, last)
+
+
+def test_a_bank_without_an_entry_has_no_period(office: Office) -> None:
+    office.bank().close()
+    with pytest.raises(Refused, match="no entry and no cash line yet"):
+        statements.statement(Copies(office.copies), 101, datetime.date(2026, 1, 1), datetime.date(2026, 1, 31))
 
 
 @pytest.mark.parametrize(
@@ -202,7 +267,7 @@ def test_a_chain_that_breaks_is_refused(office: Office, name: str, text: str, wh
         found.execute(text)
     found.close()
     with pytest.raises(Refused, match=why):
-        statements.statement(Copies(office.copies), 101, datetime.date(2025, 1, 1), datetime.date(2026, 12, 31))
+        statements.statement(Copies(office.copies), 101, datetime.date(2025, 6, 1), datetime.date(2026, 3, 31))
 
 
 def test_a_copy_with_a_log_is_refused_and_none_is_written(office: Office) -> None:
@@ -216,6 +281,33 @@ def test_a_copy_with_a_log_is_refused_and_none_is_written(office: Office) -> Non
     with pytest.raises(Refused, match="log"):
         with opened_copy(file, "present"):
             pass
+
+
+def test_a_document_has_the_year_of_its_file(office: Office) -> None:
+    for name, moment in (("2025", (2025, 6, 2)), ("2026", (2025, 11, 3)), ("present", (2026, 6, 2))):
+        bank = office.bank(name)
+        bank.moment = int(datetime.datetime(*moment, 12).timestamp())
+        bank.post(1, 101, 700)
+        bank.close()
+    with ExitStack() as stack:
+        copies = [stack.enter_context(it) for it in Copies(office.copies).all()]
+        assert books.years_of(copies) == ["2025", "2025b", "2026"]
+
+
+def test_a_posting_at_another_branch_has_that_branchs_day(office: Office) -> None:
+    bank = office.bank()
+    start = bank.moment
+    bank.post(2, 201, 100, teller=21)
+    for hour, day in ((1, 1), (2, 2)):
+        bank.moment = start + hour * 3_600
+        bank.close_day(2)
+        bank.post(2, 201, 100, teller=21)
+    bank.moment = start + 5_400
+    bank.post(1, 201, 700)
+    bank.close()
+    with Copies(office.copies).present() as copy:
+        found = ledger.postings_of(books.day_book(copy, 1, 1))
+    assert {(it.branch, it.day) for it in found} == {(1, 1), (2, 2)}
 
 
 def test_days_of_a_closed_year_are_those_of_its_file(office: Office) -> None:

@@ -1,8 +1,9 @@
 """The register: names of all kinds, search, CSV, and that nothing is lost."""
+import re
 import sqlite3
 
 import pytest
-from bank_office import register, sheets, store
+from bank_office import migrations, register, sheets
 from bank_office.register import Holder
 from bank_office.store import Refused
 from conftest import Office
@@ -14,7 +15,7 @@ def sheet_of(names: list[str]) -> bytes:
     """A sheet of holders with these names."""
     return sheets.sheet_text(
         Holder._fields,
-        [(number, name, f"{number} Main Street, Town\nUpstairs", "", "", "2026-01-31") for number, name in enumerate(names, 1)],
+        [Holder(number, name, f"{number} Main Street, Town\nUpstairs", since="2026-01-31") for number, name in enumerate(names, 1)],
     ).encode()
 
 
@@ -50,12 +51,21 @@ def test_each_odd_name_is_found_by_the_beginning_of_its_words(office: Office) ->
         ("漢", "漢字 太郎"),
         ("jo da", "João da Silva"),
         ("strass", "Anna Straße"),
+        ("mueller", "Jürgen Müller"),
+        ("groesser", "Uta Größer"),
+        ("jaeg", "Änne Jäger"),
+        ("mueller", "Ann Mueller"),
     ],
 )
 def test_accents_and_letter_case_do_not_matter(office: Office, asked: str, name: str) -> None:
     with office.opened() as found:
         sheets.imported(found, "kim", "holders", sheet_of([name, "Somebody Else"]))
         assert [it.name for it in register.search(found, asked)] == [name]
+
+
+@pytest.mark.parametrize("asked", ["bauer", "queen", "sue"])
+def test_what_is_no_umlaut_stays_as_it_is(asked: str) -> None:
+    assert register.spellings_of(asked) == {asked}
 
 
 @pytest.mark.parametrize("asked", ["", "a", "-", "a b"])
@@ -100,7 +110,7 @@ def test_a_bad_record_is_refused_by_its_line_and_nothing_is_taken(office: Office
     [
         ("holders", "", "line 1: the file is empty"),
         ("holders", "name,holder\n", "line 1: the heading is holder,name"),
-        ("holders", "holder;name;address;document;note;since\n", "line 1: the heading"),
+        ("holders", "holder;name,address;document;note;since\n", "line 1: the heading"),
         ("holdings", "account,holder,may\n101,1,owns\n", "line 2: there is no holder 1"),
         ("users", "badge,user,name\ntess,7,Tess\ntess,8,Tom\n", "line 3: the same as line 2"),
         ("users", "badge,user,name\na b,7,Tess\n", "line 2: 'a b' is no badge"),
@@ -136,7 +146,7 @@ def test_latin_1_is_refused_by_its_line(office: Office) -> None:
 def test_any_names_come_out_equal(names: list[str]) -> None:
     found = sqlite3.connect(":memory:", isolation_level=None)
     found.row_factory = sqlite3.Row
-    found.executescript(store.SCHEMA.read_text(encoding="utf-8"))
+    migrations.make_tables(found, migrations.REGISTER.scripts)
     sheets.imported(found, "kim", "holders", sheet_of(names))
     assert [it.name for it in register.holders(found)] == names
     text = sheets.exported(found, "holders")
@@ -147,6 +157,35 @@ def test_any_names_come_out_equal(names: list[str]) -> None:
 def test_a_guarded_field_is_no_formula_and_comes_back(text: str) -> None:
     assert sheets.bare(sheets.guarded(text)) == text
     assert not sheets.guarded(text).startswith(tuple("=+-@\t"))
+
+
+@given(strategies.text(strategies.sampled_from("a'=+-@;\t\n\r\uff1d\uff0b")))
+def test_no_part_of_a_field_is_a_formula(text: str) -> None:
+    guarded = sheets.guarded(text)
+    assert sheets.bare(guarded) == text
+    assert not any(it.startswith(tuple("=+-@\uff1d\uff0b")) for it in re.split("[;\t\n\r]", guarded))
+
+
+def test_a_formula_after_a_semicolon_or_a_line_is_a_text() -> None:
+    for begins in "=+-@\t":
+        assert sheets.guarded(f"{begins}1") == f"'{begins}1"
+    for name, out in (("Meier;=1+1", "Meier;'=1+1"), ("a\n=1", "a\n'=1"), ("\uff1d1", "'\uff1d1"), ("a=b; c", "a=b; c"), ("O'Neil", "O'Neil")):
+        assert sheets.guarded(name) == out
+
+
+def test_a_sheet_of_fewer_columns_is_taken(office: Office) -> None:
+    with office.opened() as found:
+        more = (("", ""), (",born", ",1961-12-31"), (",born,language,warning", ",1961-12-31,de,ask for the card"))
+        for heading, rest in more:
+            text = f"holder,name,address,document,note,since{heading}\n1,Ann,,,,2026-01-31{rest}\n"
+            assert sheets.imported(found, "kim", "holders", text.encode()) == 1
+        assert register.holder_of(found, 1) == Holder(1, "Ann", "", "", "", "2026-01-31", "1961-12-31", "de", "ask for the card")
+        for column in ("", ",born"):
+            with pytest.raises(sheets.SheetRefused, match="line 1: the heading is holder,name"):
+                sheets.imported(found, "kim", "holders", f"holder,name,address,document,note{column}\n".encode())
+        for it in (Holder(1, "Ann", born="x y"), Holder(1, "Ann", language="x y"), Holder(1, "Ann", proposer="x y")):
+            with pytest.raises(Refused, match="and not 'x y'|is no badge"):
+                register.require_holder(it)
 
 
 def test_each_change_is_kept_with_who_and_when(office: Office) -> None:
@@ -168,3 +207,10 @@ def test_each_change_is_kept_with_who_and_when(office: Office) -> None:
         for text in ("DELETE FROM changes", "UPDATE changes SET badge = 'tom'"):
             with pytest.raises(sqlite3.IntegrityError, match="never"):
                 found.execute(text)
+
+
+def test_what_is_kept_is_on_the_disk_before_it_is_answered(office: Office) -> None:
+    office.bank().close()
+    for opened in (office.opened, office.opened_runs):
+        with opened() as found:
+            assert found.execute("PRAGMA synchronous").fetchone()[0] >= 2
