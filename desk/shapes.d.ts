@@ -43,8 +43,12 @@ interface JournalRow {
   status?: number;
   reply?: string;
   aside?: {by: string, reason: string, at: number};
-  /** What was noted with a count. */
-  noted?: {reason?: string, colleague?: number};
+  /** What was noted with a count; of a part, of which sum it is, with which total; of an entry its purpose, and the bank's day. */
+  noted?: {reason?: string, colleague?: number, sum?: string, total?: number, part?: number, parts?: number,
+    purpose?: string, day?: number | null};
+  /** Of a line for a sum: the sum; of what is booked of one: the rows of its parts. */
+  sum?: Sum;
+  parts?: JournalRow[];
   /** A report that is kept with it. */
   paper?: string;
 }
@@ -59,7 +63,7 @@ interface FieldSpec {
   least?: number;
   most?: number;
   optional?: boolean;
-  pattern?: RegExp;
+  pattern?: {test(text: string): boolean};
   fault?: string;
   /** Value, label, and of a choice its class and its letter. */
   options?: string[][];
@@ -102,4 +106,32 @@ interface Desk {
   place: {branch: number | null, teller: number | null};
   allowed: Record<string, boolean>;
   [member: string]: any;
+}
+
+/** A part of a sum, by its number from 1, and its amount in cents. */
+interface Part {
+  part: number;
+  cents: number;
+}
+
+/** An amount that goes in parts, and what has become of it. */
+interface Sum {
+  id: string;
+  name: string;
+  /** With the whole amount. */
+  body: any;
+  /** What is noted with each part, of a sum of which nothing was sent yet. */
+  noted?: {purpose?: string, day?: number | null};
+  /** How many parts it has. */
+  count: number;
+  rows: JournalRow[];
+  /** The rows of the parts that are booked. */
+  done: JournalRow[];
+  /** The parts that can be sent. */
+  left: Part[];
+  doneCents: number;
+  leftCents: number;
+  isWaiting: boolean;
+  isAside: boolean;
+  isWhole: boolean;
 }

@@ -21,7 +21,7 @@ from selenium.webdriver.firefox.service import Service as FirefoxService
 from checks import Late, Wrong
 
 CHROMIUM, CHROMEDRIVER = "/usr/bin/chromium", "/usr/bin/chromedriver"
-# For so many seconds a check waits for what has to come: a busy machine takes its time.
+# For how many seconds a check waits for what has to come: a busy machine takes its time.
 SECONDS = 60
 # What is found or acted on is exchanged, not there yet, or not where it was: it is looked for again.
 MOMENTARY = (ElementClickInterceptedException, ElementNotInteractableException, NoSuchElementException,
@@ -211,11 +211,11 @@ class Browser:
         self.type(list(values)[-1], Keys.ENTER)
 
     def enter(self, **values):
-        """The same, and what the panel says then."""
+        """The same, and what the panel says once the form is there again."""
         self.send(**values)
-        text = self.outcome()
+        self.outcome()
         self.await_form()
-        return text
+        return self.outcome()
 
     def click(self, css, at=0):
         self.steady(lambda: self.all(css)[at].click())

@@ -115,7 +115,7 @@ def office(day):
     has(desk.enter(user=20), "If it was sent before without a reply, it is done", "Rule 21")
     desk.as_user("carl")
     day.sign_in(branch="1")
-    desk.go("o", "Office: who may do what")
+    desk.go("o", "Administration: who may do what")
     command(day, "define-set")
     has(desk.enter(set=6, members="account 101-150, drawer 11"), "Done")
     require(day.counter.sql("SELECT kind, low, high FROM members WHERE set_no = 6"), [(1, 101, 150), (5, 11, 11)], "the set")

@@ -25,7 +25,7 @@ TYPES = {".html": "text/html; charset=utf-8", ".js": "text/javascript; charset=u
 # What belongs to one connection, and what a browser would keep for this host.
 OWN_FIELDS = {"connection", "content-length", "host", "keep-alive", "strict-transport-security", "transfer-encoding"}
 
-# The front ends a connection on which nobody asked for some minutes, so after so many seconds another is made.
+# The front ends a connection on which nobody asked for some minutes, so after this many seconds another is made.
 OLD = 60
 
 
@@ -34,10 +34,11 @@ class Cut(Exception):
 
 
 class Counter(Branch):
-    """A branch over the sample bank, with a certificate for each of its badges, and a relay in front of it."""
+    """A branch over the sample bank, with a certificate for each of its badges, and a relay in front of it; another is for a second
+    browser."""
 
     def __init__(self, files):
-        self.relay = Relay(self, files)
+        self.relay, self.other = Relay(self, files), Relay(self, files)
         files.certificates("begin", "localhost")
         for badge in BADGES:
             files.certificates("teller", badge)
@@ -54,7 +55,7 @@ class Counter(Branch):
         """The front's settings, by which pages of the relay are its own."""
         super().write_settings(changes)
         with open(self.folder / "etc/origins.map", "a", encoding="ascii") as file:
-            file.write(f'"http://127.0.0.1:{self.relay.server_port}" own;\n')
+            file.writelines(f'"http://127.0.0.1:{it.server_port}" own;\n' for it in (self.relay, self.other))
 
     def sql(self, query, *values):
         """What the bank's file has. It is locked while it is served, so a copy is read, with its log."""
@@ -81,7 +82,8 @@ class Counter(Branch):
         return self.sql(query, *values)[0][0]
 
     def close(self):
-        self.relay.shutdown()
+        for relay in (self.relay, self.other):
+            relay.shutdown()
         super().close()
 
 

@@ -170,7 +170,7 @@ def day_in_german(day):
     day.look("de-post")
     require(day.balance(101), balance, "balance")
     before = day.asked()
-    for text, why in (("25.00", "Vor den Cent"), ("1,250.00", "falsch"), ("12,5", "alle Stellen")):
+    for text, why in (("25.00", "Vor den Cent"), ("1,250.00", "falsch"), ("12,5", "Nachkommastellen")):
         desk.fill(way="in", account="101", amount=text)
         desk.type("amount", Keys.ENTER)
         desk.fault(why)

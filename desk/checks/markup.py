@@ -72,7 +72,7 @@ def markup_of_the_policy(day):
     desk = day.desk
     desk.as_user("olga")
     day.sign_in(branch="1")
-    desk.go("o", "Office: who may do what")
+    desk.go("o", "Administration: who may do what")
     command(day, "enrol")
     for number, name in enumerate(["<img src=x onerror=", "<svg/onload=ran=1>", "&lt;b&gt;"], 20):
         has(desk.enter(user=number, name=name), "Done", name)

@@ -93,7 +93,8 @@ def kept_meanwhile(day):
 
 
 def place_that_is_not_there(day):
-    """Who may see the proof of a branch finds out at once that a drawer is not there, or that a branch is not shown to them."""
+    """Who may see the proof of a branch finds out at once that a drawer is not there, or that a branch is not shown to them. Whom it is
+    not shown is asked about a place that is another than before."""
     desk = day.desk
     desk.as_user("sue", "#session")
     desk.send(branch="1", teller="99")
@@ -102,6 +103,12 @@ def place_that_is_not_there(day):
     desk.fault("shows you nothing of branch 9")
     desk.send(branch="1", teller="")
     desk.until_text("h1", "Deposit, withdrawal")
+    desk.as_user("tess", "#session")
+    desk.send(branch="9", teller="1")
+    has(desk.until(lambda: desk.text("dialog"), "a question"), "branch 9, drawer 1", "branch 1, drawer 11")
+    desk.keys(Keys.ESCAPE)
+    desk.fault("Nothing was changed")
+    has(desk.text("header").replace("\n", " "), "Branch 1", "Drawer 11")
 
 
 def screens_step_back(day):

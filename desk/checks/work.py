@@ -99,7 +99,7 @@ def refusals(day):
     day.look("denied")
     has(desk.enter(way="in", account=999, amount="5.00"), "Not done", "You have no authorization", "Rule 3")
     desk.go("t", "Transfer")
-    has(desk.enter(source=101, target=102, amount="5.00"), "Not done", "a certifier has to grant it", "Rule 3")
+    has(desk.enter(source=101, target=102, amount="5.00"), "Not done", "a certifier has to grant an authorization", "Rule 3")
     desk.send(source=101, target=101, amount="5.00")
     desk.fault("same account")
     require(day.entries(), before, "entries")

@@ -1,4 +1,4 @@
-import {cashOver, expectedCash} from '../js/drawer-cash.js';
+import {cashFromElsewhere, cashOver, expectedCash, knownOf} from '../js/drawer-cash.js';
 import {axisMarks} from '../js/chart.js';
 import {same, row} from './check.js';
 
@@ -29,4 +29,19 @@ export function cash() {
     const marks = axisMarks(low, high);
     same([marks[0] <= low, marks.at(-1) >= high, marks.length <= 8], [true, true, true], `marks ${low} ${high}`);
   }
+}
+
+/** The bank's own figure is taken first, and what it has more than was done here came from elsewhere. */
+export async function cashOfBank() {
+  const proof = (cents, holder = 7) => ({tellers: [{teller: 11, balance: 5, cash: cents, holder}, {teller: 12, balance: 5, cash: 1, holder: 8}]});
+  const deskOf = (found, isAllowed = true, waits = false) => ({
+    place: {branch: 1, teller: 11}, allowed: {proof: isAllowed}, quietProof: async () => found, drawerRows: async () => ROWS.slice(0, 4),
+    waits: async () => waits,
+  });
+  same(await knownOf(deskOf(proof(92000)), 11), {isOn: true, cents: 92000, isOfBank: true}, 'by the bank');
+  same(await knownOf(deskOf(proof(0, 0)), 11), {isOn: false, cents: null, isOfBank: true}, 'nobody holds it');
+  same(await knownOf(deskOf(null), 11), {isOn: true, cents: 42000, isOfBank: false}, 'by what was done here');
+  same(await cashFromElsewhere(deskOf(proof(92000))), {teller: 11, cash: 92000, difference: 50000}, 'from elsewhere');
+  const none = [deskOf(proof(42000)), deskOf(null), deskOf(proof(92000), false), deskOf(proof(92000), true, true), deskOf(proof(0, 0))];
+  same(await Promise.all(none.map(cashFromElsewhere)), [null, null, null, null, null], 'nothing, or nobody can say');
 }

@@ -4,7 +4,13 @@ import correct from '../js/screens/correct.js';
 import moveCash from '../js/screens/move-cash.js';
 import {isSame} from '../js/second-look.js';
 import {isDue, moveAfter, withoutMove} from '../js/cash-due.js';
+import {moveBetween} from '../js/due-moves.js';
 import {keepDraft, restoreDraft} from '../js/drafts.js';
+import {counting} from '../js/counting.js';
+import {showAmount} from '../js/amounts.js';
+import {DENOMINATIONS} from '../js/settings.js';
+import {makeDesk} from '../js/desk.js';
+import {openStore} from '../js/store.js';
 import {same, row} from './check.js';
 import {shown, sent} from './screens.js';
 
@@ -33,7 +39,7 @@ export async function ways() {
     same(press(inputOf(room, 'account'), key), false, `the letter ${key} is not typed`);
     same([chosenOf(room), buttonOf(room).textContent], [way, text], `by ${key}`);
     await sent(room);
-    same([asked.at(-1), chosenOf(room)], [['post', {account: 101, branch: 1, delta, teller: 11}, null], null], `sent, and no way after it: ${way}`);
+    same([asked.at(-1), chosenOf(room)], [['post', {account: 101, branch: 1, delta, teller: 11}, null, {}], null], `sent, and no way after it: ${way}`);
   }
   room.remove();
 }
@@ -42,6 +48,7 @@ export function repeats() {
   const last = row(1, 'post', {account: 101, delta: 4200}, {});
   const again = {name: 'post', body: last.body};
   same([isSame(last, again), isSame(undefined, again)], [true, false], 'the same');
+  for (const name of ['transfer', 'move-cash', 'release']) same(isSame({...last, name}, {...again, name}), true, `the same ${name}`);
   same(isSame({...last, state: 'refused'}, again), false, 'what was refused may be sent again');
   same(isSame(last, {name: 'post', body: '{"account":101,"delta":4201}'}), false, 'another amount');
   same(isSame({...last, name: 'drawer-off'}, {name: 'drawer-off', body: last.body}), false, 'what the bank refuses the second time');
@@ -98,4 +105,54 @@ export async function drafts() {
   restoreDraft('post', after.room);
   same([chosenOf(after.room), inputOf(after.room, 'account').value], [null, ''], 'nothing is left');
   for (const room of document.querySelectorAll('body > section:not([id])')) room.remove();
+}
+
+/** Who asked for a correction is shown whom to hand the cash, by the drawers at which entry and correction were made. */
+export async function handed() {
+  const lines = [{branch: 1, entry: 4, teller: 11, turn: 1}, {branch: 2, entry: 9, teller: 21, turn: 2}, {branch: 1, entry: 9, teller: 12, turn: 3}];
+  const operation = {procedure: 'correct', account: 101, branch: 1, delta: 12000, entry: 4, other: 0, teller: 11};
+  const askOf = (more = {}) => ({ask: 5, wish: 'correct', operations: [{...operation, ...more}], number: 9});
+  const desk = {
+    place: {branch: 1, teller: 11}, lastTurns: new Map(), ask: async () => lines, isHanded: async () => false, dueMoves: [],
+    setDueMoves: async found => { desk.dueMoves = found; },
+  };
+  const move = {branch: 1, source: 11, target: 12, amount: 12000};
+  same(await moveBetween(desk, askOf()), move, 'a deposit that was corrected at drawer 12');
+  same(desk.dueMoves.map(({at: _at, ...found}) => found), [move], 'it is offered');
+  same(await moveBetween(desk, askOf({delta: -12000})), {...move, source: 12, target: 11}, 'a withdrawal');
+  same(desk.dueMoves.length, 1, 'what another has to hand is not offered');
+  same([await moveBetween(desk, askOf({other: 102})), await moveBetween(desk, {...askOf(), wish: 'release'})], [null, null], 'no cash');
+}
+
+/** An amount that is typed beside a count is the count, to the cent. */
+export function countedAndTyped() {
+  const {row: drawn, read} = counting('cash', 'Cash');
+  const [counts, typed] = [[...drawn.querySelectorAll('.count')], drawn.querySelector('.amount')];
+  counts[0].value = '2';
+  const [first] = DENOMINATIONS;
+  for (const [more, is] of [[-1, false], [0, true], [1, false]]) {
+    typed.value = showAmount(2 * first + more);
+    same([read().value === 2 * first, read().fault === undefined], [is, is], `typed is ${more} more than the count`);
+  }
+}
+
+/** A waiting request is set aside by somebody else, to whom the bank lists the proof of its branch. */
+export async function aside() {
+  indexedDB.deleteDatabase('aside');
+  const store = await openStore('aside');
+  await store.setFact('sue session', {number: 7, used: 0});
+  const asked = [];
+  const {fetch} = window;
+  window.fetch = async path => {
+    asked.push(path);
+    return new Response('', {headers: {'Content-Type': 'text/plain'}});
+  };
+  try {
+    const desk = await makeDesk({store, badge: 'sue', report: () => {}});
+    const waiting = {badge: 'sue', state: 'waiting', name: 'post', body: '{"branch":1}'};
+    same([await desk.supervises(waiting), asked], [false, []], 'one\'s own');
+    same([await desk.supervises({...waiting, badge: 'tess'}), asked], [true, ['/do/proof']], 'another\'s');
+  } finally {
+    window.fetch = fetch;
+  }
 }

@@ -1,49 +1,7 @@
-// The office's part of the page: what is asked of colleagues, names, and amounts in parts.
+// The office's part of the page: what is asked of colleagues, and names.
 import {makeOffice} from '../js/office.js';
-import {wishOf, requestOf, correctionOf} from '../js/asking.js';
-import {partsOf, actInParts, inParts, leftText, MOST_AT_ONCE} from '../js/parts.js';
+import {askText, correctionOf, requestOf, wishOf} from '../js/asks.js';
 import {same, reply, none} from './check.js';
-
-export function parts() {
-  for (const [cents, wanted] of [[1, [1]], [999999, [999999]], [1000000, [999999, 1]], [2500000, [999999, 999999, 500002]]]) {
-    same(partsOf(cents), wanted, `${cents} in parts`);
-  }
-  same([partsOf(MOST_AT_ONCE).length, new Set(partsOf(MOST_AT_ONCE)).size], [100, 1], 'the most at once');
-  same(inParts(999999, 'x'), 'x', 'one part');
-  same(inParts(2500000, 'x').includes('3') && inParts(2500000, 'x').startsWith('x'), true, 'three parts');
-}
-
-/** A desk whose requests end with these states. */
-function deskOf(states) {
-  const asked = [];
-  return {asked, act: async (...request) => {
-    asked.push(request);
-    return states[asked.length - 1];
-  }};
-}
-
-export async function sentInParts() {
-  const told = [];
-  const bodyOf = part => ({amount: part});
-  const one = deskOf(['done']);
-  same(await actInParts(one, 'post', 2500, bodyOf, 7, text => told.push(text)), 'done', 'one');
-  same([one.asked, told], [[['post', {amount: 2500}, 7]], []], 'one as ever, with its release');
-  const three = deskOf(['done', 'done', 'done']);
-  same(await actInParts(three, 'post', 2500000, bodyOf, null, text => told.push(text)), 'done', 'three');
-  const sent = three.asked.map(([, body, , noted]) => [body.amount, noted.part, noted.parts]);
-  same(sent, [[999999, 1, 3], [999999, 2, 3], [500002, 3, 3]], 'three parts');
-  const refused = deskOf(['done', 'refused']);
-  same(await actInParts(refused, 'post', 2500000, bodyOf, null, text => told.push(text)), 'refused', 'refused');
-  const found = [refused.asked.length, told.length, told[1].includes('9,999.99')];
-  same(found, [2, 2, true], 'no part after one that is refused, and how far it came');
-}
-
-export function leftParts() {
-  const row = (state, part) => ({state, noted: {part, parts: 3}});
-  same([leftText(undefined), leftText({state: 'done'}), leftText(row('done', 3))], ['', '', ''], 'nothing is left');
-  same(leftText(row('done', 2)).includes('2'), true, 'two of three');
-  same(leftText(row('refused', 2)).includes('1'), true, 'one of three');
-}
 
 export function wishes() {
   for (const [name, rule, wish] of [
@@ -51,10 +9,13 @@ export function wishes() {
   ]) {
     same(wishOf(name, rule), wish, `${name} and rule ${rule}`);
   }
-  same(requestOf({operation: {procedure: 'post', account: 101, delta: 5}}), {name: 'post', body: {account: 101, delta: 5}}, 'what is sent');
+  same(requestOf({procedure: 'post', account: 101, delta: 5}), {name: 'post', body: {account: 101, delta: 5}}, 'what is sent');
   const operation = {entry: 3, account: 101, other: 0, delta: -2500, teller: 11};
-  same(correctionOf({operation}), 'correct?entry=3&account=101&kind=out&amount=25.00&drawer=11', 'a withdrawal to correct');
-  const transfer = correctionOf({operation: {...operation, other: 102, delta: 2500}});
+  same(correctionOf(operation), 'correct?entry=3&account=101&kind=out&amount=25.00&drawer=11', 'a withdrawal to correct');
+  const transfer = correctionOf({...operation, other: 102, delta: 2500});
+  const part = delta => ({procedure: 'post', account: 101, branch: 1, delta, teller: 11});
+  same(askText({operations: [part(999999), part(500001)]}), 'Deposit of 15,000.00, account 101, drawer 11, in 2 entries', 'a sum, with its total');
+  same(askText({operations: [part(5)]}), 'Deposit of 0.05, account 101, drawer 11', 'one entry');
   same(transfer, 'correct?entry=3&account=101&kind=in-transfer&amount=25.00&drawer=11&other=102', 'a transfer to correct');
 }
 

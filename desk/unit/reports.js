@@ -43,7 +43,7 @@ export function reports() {
   same(listed[4].cells, {user: 7, procedure: 'post', set: 2, limit: 999999, first: 0, last: 99999999999}, 'triple');
 }
 
-/** The last turn of an account with so many entries, and how often was asked. */
+/** The last turn of an account with `last` entries, and how often was asked. */
 async function searched(last, known) {
   let asked = 0;
   const linesFrom = async turn => {

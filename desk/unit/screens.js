@@ -10,7 +10,7 @@ export async function shown(screen, {address = '', state = 'refused', dueMoves =
     asked.push(request);
     return state;
   };
-  const desk = {place: {branch: 1, teller: 11}, act, dueMoves, setDueMoves: async moves => { desk.dueMoves = moves; }};
+  const desk = {place: {branch: 1, teller: 11}, act, customersDue: async () => [], keepCustomers: async () => {}, dueMoves, setDueMoves: async moves => { desk.dueMoves = moves; }};
   const {elements} = await screen.make(desk, {given: new URLSearchParams(address), again: async () => {}});
   const room = document.body.appendChild(document.createElement('section'));
   room.append(...[elements].flat().filter(Boolean));

@@ -130,6 +130,8 @@ export function commands() {
   same(typeof bodyOf('grant', {...grant, first: '2026-11-28', last: '2026-11-27'}).faults.last, 'string', 'ends before');
   same([parseMoment('2026-02-31', true), parseMoment('2026-02-28 24:00', true)], [null, null], 'no such day or time');
   same(parseMoment('2026-11-28', true) - parseMoment('2026-11-28', false), 86399, 'a day');
+  const {body: {first, last}} = bodyOf('grant', {...grant, first: '2026-11-28', last: '2026-11-28'});
+  same([first, last], [parseMoment('2026-11-28 00:00:00', false), parseMoment('2026-11-28 23:59:59', false)], 'a grant for a day');
   const released = operationOf({procedure: 'post', branch: 1, teller: 12, way: 'out', account: 101, amount: 60000});
   same(released, {account: 101, branch: 1, delta: -60000, procedure: 'post', teller: 12}, 'released');
   const typed = {

@@ -4,15 +4,18 @@ import {amounts} from './amounts.js';
 import {reports, lastTurns} from './reports.js';
 import {judged, slips, queues, queuesAcrossSessions, durable, stores} from './requests.js';
 import {refusals, operations, ends, journals, receipts, papers, outcomes, commands} from './texts.js';
-import {cash} from './cash.js';
-import {ways, repeats, moves, drafts} from './money.js';
-import {words, languages, digits, times, corrections} from './words.js';
+import {cash, cashOfBank} from './cash.js';
+import {ways, repeats, moves, drafts, handed, countedAndTyped, aside} from './money.js';
+import {words, languages, digits, times, corrections, days} from './words.js';
 import {newAccounts, movedCash} from './screens.js';
-import {parts, sentInParts, leftParts, wishes, officeAnswers} from './office.js';
+import {wishes, officeAnswers} from './office.js';
+import {besideAccounts, openedFor, leftCustomers, purposes, purposesOfParts} from './customers.js';
+import {parts, sentInParts, leftOfSums, shownSums, sameSums, coveredSums} from './sums.js';
 
 const TESTS = [amounts, reports, lastTurns, judged, slips, queues, queuesAcrossSessions, durable, stores, refusals, operations, ends,
-  journals, receipts, papers, outcomes, commands, cash, newAccounts, movedCash, ways, repeats, moves, drafts, words, languages,
-  digits, times, corrections, parts, sentInParts, leftParts, wishes, officeAnswers];
+  journals, receipts, papers, outcomes, commands, cash, cashOfBank, newAccounts, movedCash, ways, repeats, moves, drafts, handed,
+  countedAndTyped, aside, words, languages, digits, times, corrections, days, parts, sentInParts, leftOfSums, shownSums, sameSums,
+  coveredSums, wishes, officeAnswers, besideAccounts, openedFor, leftCustomers, purposes, purposesOfParts];
 
 /** A test that waits for ever has failed. */
 const late = () => new Promise((_, reject) => setTimeout(() => reject(new Error('no end')), 15000));

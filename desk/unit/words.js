@@ -3,8 +3,8 @@ import {WORDS, say, setLocale, locale} from '../js/words.js';
 import {parseAmount, showAmount} from '../js/amounts.js';
 import {parseMembers} from '../js/policy-commands.js';
 import {daysLeft} from '../js/notices.js';
-import {canCorrect, knownEntries} from '../js/known-entries.js';
-import {setClock, now, clockBehind} from '../js/dates.js';
+import {canBeAsked, canCorrect, knownEntries} from '../js/known-entries.js';
+import {setClock, now, clockBehind, exampleDay, isMoment, parseMoment} from '../js/dates.js';
 import {same, row} from './check.js';
 
 /** The forms of a sentence. */
@@ -94,5 +94,27 @@ export function corrections() {
   const noon = new Date(2026, 10, 28, 12).getTime();
   const can = (entry, more = {}, closed = 0) => canCorrect({branch: 1, entry, teller: 12, moment: noon / 1000 - 60, ...more}, known, {branch: 1, teller: 11}, closed, noon);
   same([1, 2, 3, 5, 9].map(entry => can(entry)), [false, true, false, false, true], 'own, a colleague\'s, corrected, a correction, unknown');
+  const refused = rule => ({...row(5, 'correct', {account: 101, branch: 1, delta: -500, entry: 2, other: 0, teller: 11}, {name: 'x', rule}), state: 'refused'});
+  const canAfter = rule => canCorrect({branch: 1, entry: 2, teller: 12, moment: noon / 1000 - 60}, knownEntries([...rows, refused(rule)], 'tess'), {branch: 1, teller: 11}, 0, noon);
+  same([canAfter(3), canAfter(12)], [false, true], 'what the bank refused for good');
+  const asked = entry => canBeAsked({branch: 1, entry, teller: 11, moment: noon / 1000 - 60}, known, {branch: 1}, 0, noon);
+  same([1, 2, 3, 5, 9].map(asked), [true, false, false, false, false], 'a colleague is asked about one\'s own alone');
+  const undone = {...row(6, 'correct', {account: 101, branch: 1, delta: 500, entry: 1, other: 0, teller: 12}, {balance: 1, branch: 1, entry: 7}), badge: 'tom'};
+  const after = knownEntries([...rows, undone], 'tess');
+  same(canBeAsked({branch: 1, entry: 1, teller: 11, moment: noon / 1000 - 60}, after, {branch: 1}, 0, noon), false, 'nor about what is corrected');
   same([can(9, {teller: 11}), can(9, {branch: 2}), can(9, {moment: noon / 1000 - 86400}), can(9, {}, noon - 1000)], [false, false, false, false], 'none');
+}
+
+/** A day is typed as the language of the page has it, or as 2026-11-28. */
+export function days() {
+  const before = locale();
+  const plain = parseMoment('2026-11-28 17:30', false);
+  for (const [name, day] of [['de', '28.11.2026'], ['fr', '28/11/2026'], ['es', '28/11/2026'], ['en', '11/28/2026'], ['en-GB', '28/11/2026']]) {
+    setLocale(name);
+    same([exampleDay(), parseMoment(`${day} 17:30`, false), parseMoment('2026-11-28 17:30', false)], [day, plain, plain], `a day in ${name}`);
+    same([isMoment(day), isMoment('28-11-2026'), isMoment(`${day} 17`), isMoment('x')], [true, false, false, false], `what is a day in ${name}`);
+  }
+  setLocale('de');
+  same([parseMoment('31.02.2026', false), parseMoment('1.3.2026', true) - parseMoment('1.3.2026', false)], [null, 86399], 'days of a month');
+  setLocale(before);
 }

@@ -107,7 +107,7 @@ export function reportedAmount(text) {
 }
 
 /**
- * What so many of each note and coin come to: {cents}, or {fault, at} with the first that is no number.
+ * The sum of a count of each note and coin: {cents}, or {fault, at} with the first that is no number.
  * @returns {{cents?: number, fault?: string, at?: number}}
  */
 export function countCash(texts, denominations = DENOMINATIONS) {

@@ -1,6 +1,6 @@
 // A correction moves the cash of the drawer of whoever corrects, and the notes lie in another. What has to be moved between the
 // two, so that each holds what the bank has for it.
-
+import {showAmount} from './amounts.js';
 import {plainDay} from './dates.js';
 
 /** @typedef {{branch: number, source: number, target: number, amount: number, at?: number}} Move A move between drawers, due since. */
@@ -15,6 +15,9 @@ export function moveAfter({branch, delta, other, teller}, drawer) {
   const [source, target] = delta > 0 ? [drawer, teller] : [teller, drawer];
   return {branch, source, target, amount: Math.abs(delta)};
 }
+
+/** The address of the screen of moves with a move filled in. */
+export const moveLink = (/** @type {Move} */ {source, target, amount}) => `#cash?from=${source}&to=${target}&amount=${showAmount(amount)}`;
 
 /** Whether a move is still due: a drawer is emptied by the end of its day. */
 export const isDue = (/** @type {Move} */ move, /** @type {number} */ at) => plainDay(move.at ?? 0) === plainDay(at);

@@ -50,12 +50,33 @@ export function clockBehind() {
   return Math.abs(ahead) > CLOCK_SECONDS * 1000 ? Math.trunc(ahead / 1000) : null;
 }
 
+const SAMPLE = new Date(2026, 10, 28, 12);
+const CLOCK = '( [0-9]{2}:[0-9]{2}(?::[0-9]{2})?)?';
+const daysOf = () => new Intl.DateTimeFormat(locale(), {year: 'numeric', month: '2-digit', day: '2-digit'});
+
+/** How a day is typed in the language of the page. */
+export const exampleDay = () => daysOf().format(SAMPLE);
+
+/** A typed day, or day and time, as 2026-11-28 17:30, or null: it may be typed so, or as the language of the page has it. */
+function plainMoment(/** @type {string} */ text) {
+  const digits = {year: '(?<year>[0-9]{4})', month: '(?<month>[0-9]{1,2})', day: '(?<day>[0-9]{1,2})'};
+  const own = daysOf().formatToParts(SAMPLE).map(({type, value}) => digits[type] ?? value.replace(/[^ ]/g, '\\$&').replace(/ /g, ' ?')).join('');
+  const patterns = [`(?<year>[0-9]{4})-(?<month>[0-9]{2})-(?<day>[0-9]{2})`, own].map(day => new RegExp(`^${day}${CLOCK}$`));
+  const found = patterns.map(pattern => pattern.exec(text.trim())).find(one => one !== null);
+  if (!found) return null;
+  const {year, month, day} = found.groups;
+  return `${year}-${month.padStart(2, '0')}-${day.padStart(2, '0')}${found[4] ?? ''}`;
+}
+
+/** Whether a text looks like a day, or a day and a time. */
+export const isMoment = (/** @type {string} */ text) => plainMoment(text) !== null;
+
 /**
  * The moment, in seconds, of a typed day or day and time, or null; a day alone is its first second, or its last. (A browser
  * takes the 31st of February for the 3rd of March.)
  */
 export function parseMoment(text, isLast) {
-  const [day, time] = text.split(' ');
+  const [day, time] = (plainMoment(text) ?? '').split(' ');
   const at = new Date(`${day}T${time ?? (isLast ? '23:59:59' : '00:00:00')}`).getTime();
   return Number.isNaN(at) || plainDay(at) !== day ? null : Math.trunc(at / 1000);
 }

@@ -7,6 +7,7 @@ import {askedText, branchOf} from './journal.js';
 import {showAmount} from './amounts.js';
 import {now} from './dates.js';
 import {setNames} from './names.js';
+import {cashOver} from './drawer-cash.js';
 import {readProof} from './reports.js';
 import {refusalText} from './refusals.js';
 import {isSame, isRepeatMeant} from './second-look.js';
@@ -85,6 +86,29 @@ function keptBy(/** @type {Desk} */ desk, store) {
     async setDueMoves(moves) {
       desk.dueMoves = moves;
       await store.setFact('due moves', moves);
+    },
+
+    /** Which sum a request in the office's queue is of, by its number there; those of long ago are left out. */
+    keptAsks: async () => new Map((await store.fact(`${badge} asks`)) ?? []),
+    async keepAsk(ask, sum) {
+      await store.setFact(`${badge} asks`, [...await desk.keptAsks(), [ask, sum]].slice(-100));
+    },
+
+    /** New customers, each with the account that is being opened for them, until the office has them. */
+    customersDue: async () => (await store.fact(`${badge} customers`)) ?? [],
+    keepCustomers: customers => store.setFact(`${badge} customers`, customers),
+
+    /** What was noted with a request of one entry that is in the office's queue, by its number there. */
+    notedOfAsk: async ask => new Map((await store.fact(`${badge} noted asks`)) ?? []).get(ask) ?? {},
+    async keepNoted(ask, noted) {
+      await store.setFact(`${badge} noted asks`, [...(await store.fact(`${badge} noted asks`)) ?? [], [ask, noted]].slice(-100));
+    },
+
+    /** Whether the move of cash after a correction that was asked for was kept before; from now on it was. */
+    async isHanded(ask) {
+      const handed = (await store.fact(`${badge} handed`)) ?? [];
+      if (!handed.includes(ask)) await store.setFact(`${badge} handed`, [...handed, ask].slice(-100));
+      return handed.includes(ask);
     },
 
     async keepNames(pairs) {
@@ -207,22 +231,44 @@ function questionsOf(/** @type {Desk} */ desk, {wait, report}) {
       return null;
     },
 
-    /** Whether the bank shows this user the balance of an account. Without a reply it does not. */
-    async showsBalance(account) {
-      if (!desk.session) return false;
-      return judge(await desk.sendInSession({path: '/do/balance', body: JSON.stringify({account})}), isBalance) === 'done';
+    /**
+     * The balance of an account, or null where the bank does not show it to this user, or gives no reply. As nobody asked for it by a
+     * key, a session that is over is said with the next request, and not here.
+     */
+    async balanceOf(account) {
+      const {badge, session} = desk;
+      if (!session) return null;
+      const reply = await send({path: '/do/balance', body: JSON.stringify({account}), badge, session});
+      return judge(reply, isBalance) === 'done' ? reply.body.balance : null;
     },
 
     /** The proof of a branch, or null where the bank does not show it to this user, which is not said; `tell` gets that reply. */
     async quietProof(branch, /** @type {(reply: BankReply) => void} */ tell = () => {}) {
-      if (branch === null || desk.allowed.proof === false) return null;
-      return desk.ask('proof', {branch}, null, ({text}) => readProof(text), (_, __, reply) => reply && tell(reply));
+      // (where it was refused it is asked for once more in each session, as it may be granted since)
+      if (branch === null || (desk.allowed.proof === false && desk.hiddenIn === desk.session)) return null;
+      const found = await desk.ask('proof', {branch}, null, ({text}) => readProof(text), (_, __, reply) => reply && tell(reply));
+      desk.hiddenIn = found ? null : desk.session;
+      return found;
     },
 
-    /** Whether this user is a supervisor of the branch of a request: whom the bank lists its proof to. */
+    /** The name by which the office knows this user, or null: by the drawer that they put on here, whose holder the proof shows. */
+    async ownName() {
+      const {branch, teller} = desk.place;
+      if (desk.knownName || teller === null || !cashOver(await desk.rows(true), teller).isOn) return desk.knownName ?? null;
+      const holder = (await desk.quietProof(branch))?.tellers.find(one => one.teller === teller)?.holder ?? 0;
+      desk.knownName = holder === 0 ? null : await desk.office.user(holder);
+      return desk.knownName;
+    },
+
+    /** Whether this user works at a drawer, and so sees of a proof that drawer alone, as long as nothing shows a supervisor. */
+    isTeller: () => desk.place.teller !== null && desk.allowed.release !== true && desk.allowed['close-day'] !== true,
+
+    /** Whether this user is a supervisor of the branch of a request: whom the bank lists its proof to, and who is no teller. */
     async supervises(row) {
       const branch = branchOf(row);
-      return row.badge !== desk.badge && await desk.ask('proof', {branch}, say('asked.proof', {branch})) !== null;
+      const isListed = row.badge !== desk.badge && await desk.ask('proof', {branch}, say('asked.proof', {branch})) !== null;
+      if (isListed && desk.isTeller()) report('teller');
+      return isListed && !desk.isTeller();
     },
   };
 }
@@ -238,8 +284,8 @@ function actionsOf(/** @type {Desk} */ desk, {store, queue, report, isMeant}) {
       if (!desk.session) return report('nosession');
       if (await desk.waits()) return report('held');
       const last = await desk.lastRequest();
-      const isNextPart = noted.part > 1; // of one amount, which may be as the part before it
-      if (!isNextPart && isSame(last, {name, body: JSON.stringify(body)}) && !await isMeant(last)) return 'kept';
+      const isNextPart = noted.part > 1; // which may be as the part before it
+      if (!isNextPart && isSame(last, {name, body: JSON.stringify(body), noted}) && !await isMeant(last)) return 'kept';
       const session = await store.fact(`${desk.badge} session`);
       const hasSlip = session && nextSlip(session.number, session.used) !== null;
       if (!hasSlip && !(await desk.open()).isOpened) return report('nosession');
@@ -267,8 +313,9 @@ function actionsOf(/** @type {Desk} */ desk, {store, queue, report, isMeant}) {
 
 /**
  * The desk of a badge. `report(event, request, reply)` hears what happens: sending, again, session, done and refused of a
- * request; held, nosession, unkept, noreply, unsure and unreadable where one was not sent, not answered or not read; clear; and
- * learned, where it is newly known what the user may do. `isMeant(last)` is asked before the same as the last request is sent.
+ * request; held, nosession, unkept, noreply, unsure, teller and unreadable where one was not sent, not answered, not a teller's or not read;
+ * clear; sum, once no more of a sum is sent; and learned, where it is newly known what the user may do. `isMeant(last)` is asked before the
+ * same as the last request is sent.
  */
 export async function makeDesk({store, badge, report, isMeant = isRepeatMeant}) {
   const {wait, hurry} = makePauses();
@@ -280,7 +327,8 @@ export async function makeDesk({store, badge, report, isMeant = isRepeatMeant}) 
   const queue = makeQueue({journal: store.journalOf(badge), send: sendSlip, isReply, wait, report: heard});
   /** @type {Desk} */
   const desk = Object.assign(/** @type {any} */ ({badge, lastTurns: new Map()}), await factsOf(store, badge), {
-    hurry,
+    hurry, report,
+    sumSent: null, // the sum that is being sent
     run: () => queue.run(),
     waiting: () => store.waiting(),
     waits: async () => (await store.waiting()).some(row => row.badge === badge),

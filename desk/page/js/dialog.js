@@ -8,7 +8,7 @@ const SHORTEST = 3;
 
 /**
  * Shows a dialog that `fill(close)` fills, and returns what it is closed with: '' where nothing is to be done, or where another
- * is open, as after two clicks. What had the focus has it again.
+ * is open, as after two clicks. The focus then returns to where it was.
  */
 function asked(question, fill) {
   if (document.querySelector('dialog')) return Promise.resolve('');

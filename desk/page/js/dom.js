@@ -45,7 +45,7 @@ export function button(text, click, attributes = {}) {
   return h('button', {type: 'button', click, ...attributes}, text);
 }
 
-/** Gives the focus to an element where what had it was taken away. */
+/** Gives the focus to an element if the one with the focus was taken away. */
 export function refocus(element) {
   if (document.activeElement === document.body) element?.focus();
 }

@@ -22,6 +22,9 @@ export function keepDraft(/** @type {string} */ id, /** @type {HTMLElement} */ r
   })));
 }
 
+/** Keeps nothing of a screen. */
+export const forgetDraft = (/** @type {string} */ id) => drafts.delete(id);
+
 /** Puts it there again. What a field shows may hang on one before it, so each is looked for once those are filled in. */
 export function restoreDraft(/** @type {string} */ id, /** @type {HTMLElement} */ room) {
   for (const {name, values} of drafts.get(id) ?? []) {

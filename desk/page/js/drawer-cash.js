@@ -1,4 +1,36 @@
-// What the journal of a shift says of a drawer's cash.
+// What is known of a drawer's cash: the bank's own figure where it shows that, or else what the journal of a shift says.
+
+/**
+ * @typedef {{isOn: boolean, cents: number | null, isOfBank: boolean}} Known Whether a drawer is on, and what it should hold, by the bank
+ * or by what was done at this machine.
+ */
+
+/**
+ * What is known of a drawer. A colleague at another machine may have moved cash to it, so the bank's figure is taken first.
+ * @returns {Promise<Known>}
+ */
+export async function knownOf(/** @type {Desk} */ desk, /** @type {number | null} */ teller) {
+  const found = teller === null ? undefined : (await desk.quietProof(desk.place.branch))?.tellers.find(one => one.teller === teller);
+  if (found) return {isOn: found.holder !== 0, cents: found.holder === 0 ? null : found.cash, isOfBank: true};
+  const rows = await desk.drawerRows();
+  return {isOn: cashOver(rows, teller).isOn, cents: expectedCash(rows, teller), isOfBank: false};
+}
+
+/**
+ * How much came to the drawer of whoever works here by others at other machines, as the bank has it: {teller, cash, difference}, or
+ * null where nothing did or where that can't be said.
+ */
+export async function cashFromElsewhere(/** @type {Desk} */ desk) {
+  const {teller} = desk.place;
+  if (teller === null || desk.allowed.proof !== true || await desk.waits()) return null;
+  const before = await desk.drawerRows();
+  const {isOn, cents, isOfBank} = await knownOf(desk, teller);
+  const rows = await desk.drawerRows();
+  const own = expectedCash(rows, teller);
+  const isSteady = rows.length === before.length && !await desk.waits(); // nothing was done here meanwhile
+  if (!isSteady || !isOn || !isOfBank || own === null || own === cents) return null;
+  return {teller, cash: cents, difference: cents - own};
+}
 
 /**
  * Points {at, cash}, what was done to the drawer in order; whether the drawer is on; its difference where it was put off.

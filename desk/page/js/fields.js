@@ -88,5 +88,10 @@ export const release = () => field({
   name: 'release', label: say('end.release'), kind: 'number', most: 100000, optional: true, tucked: say('release.tucked'),
 });
 
+export const purpose = () => field({
+  name: 'purpose', label: say('purpose'), kind: 'text', pattern: /^[^\p{Cc}]{0,200}$/u, fault: say('purpose.fault'), optional: true,
+  tucked: say('purpose.tucked'),
+});
+
 /** An amount in a sentence that is not whole yet. */
 export const amountText = (/** @type {number | null} */ cents) => (cents === null ? null : showAmount(cents));

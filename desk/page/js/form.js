@@ -2,7 +2,7 @@
 import {h} from './dom.js';
 import {say} from './words.js';
 
-/** After so many milliseconds a form says that it waits. */
+/** After how many milliseconds a form says that it waits. */
 const SLOW = 2000;
 
 function showFault(field, fault) {

@@ -3,8 +3,8 @@
 import {plainDay} from './dates.js';
 
 /**
- * @typedef {{kind: string, other: number | null, isOwn: boolean, isCorrected: boolean}} Known An entry; its kind is `correction`,
- * or what the screen of corrections calls it.
+ * @typedef {{kind: string, other: number | null, isOwn: boolean, isCorrected: boolean, isRefused?: boolean}} Known An entry; its kind is
+ * `correction`, or what the screen of corrections calls it. `isRefused` says that the bank refused to correct it.
  */
 
 /**
@@ -29,8 +29,17 @@ export function knownEntries(/** @type {JournalRow[]} */ rows, /** @type {string
       for (const entry of legsOf(known, body)) Object.assign(known.get(entry) ?? {}, {isCorrected: true});
     }
   }
+  for (const row of rows.filter(one => one.state === 'refused' && one.name === 'correct' && one.badge === badge)) {
+    const {branch, entry} = JSON.parse(row.body);
+    const isFinal = FINAL.includes(JSON.parse(row.reply).rule);
+    const name = `${branch} ${entry}`;
+    if (isFinal) known.set(name, {kind: '', other: null, isOwn: false, isCorrected: false, ...known.get(name), isRefused: true});
+  }
   return known;
 }
+
+/** The rules by which the bank refuses a correction of an entry whatever else is typed. */
+const FINAL = [2, 3, 9];
 
 /** The entries that a correction is of: both legs of a transfer. */
 function legsOf(known, {branch, entry}) {
@@ -47,14 +56,25 @@ export function lastClosing(/** @type {JournalRow[]} */ rows, /** @type {number}
   return closings.at(-1)?.answered ?? 0;
 }
 
+/** Whether a line is of a branch's present day. */
+function isOpen(line, branch, closed, at) {
+  const made = line.moment * 1000;
+  return line.branch === branch && plainDay(made) === plainDay(at) && made >= closed;
+}
+
+/** Whether a colleague can be asked to correct a line: it is of the present day, one's own, and not corrected yet. */
+export function canBeAsked(line, known, {branch}, /** @type {number} */ closed, /** @type {number} */ at) {
+  const found = known.get(`${line.branch} ${line.entry}`);
+  return isOpen(line, branch, closed, at) && Boolean(found?.isOwn) && !found.isCorrected && found.kind !== 'correction';
+}
+
 /**
  * Whether whoever works at a branch can correct a line of a statement, as far as this machine knows: it is of that branch's present
  * day, not their own, no correction, and not corrected yet.
  */
 export function canCorrect(line, known, {branch, teller}, /** @type {number} */ closed, /** @type {number} */ at) {
-  const made = line.moment * 1000;
   const found = known.get(`${line.branch} ${line.entry}`);
-  if (line.branch !== branch || plainDay(made) !== plainDay(at) || made < closed) return false;
+  if (!isOpen(line, branch, closed, at)) return false;
   if (!found) return line.teller !== teller;
-  return !found.isOwn && !found.isCorrected && found.kind !== 'correction';
+  return !found.isOwn && !found.isCorrected && !found.isRefused && found.kind !== 'correction';
 }

@@ -7,27 +7,33 @@ import {hasReceipt} from './receipt.js';
 import {printReceipt} from './paper.js';
 import {reasonFor} from './dialog.js';
 import {askedText} from './journal.js';
-import {keepDraft, restoreDraft} from './drafts.js';
+import {forgetDraft, keepDraft, restoreDraft} from './drafts.js';
 import {now} from './dates.js';
 import {lockAfter} from './lock.js';
 import {showNotices} from './notices.js';
 import {makeOffice} from './office.js';
 import {watchNames} from './account-names.js';
 import {makeAsking} from './asking.js';
-import {leftText} from './parts.js';
+import {watchDrawer} from './drawer-watch.js';
+import {bookedRow, lastSum, sumOf} from './sums.js';
+import {makeSumPanel} from './sum-panel.js';
+import {makePurposes} from './purposes.js';
+import {accountSettled, resumeCustomers} from './new-customers.js';
 import {language, say} from './words.js';
 import * as menu from './menu.js';
 import * as outcome from './outcome.js';
 import * as waiting from './waiting.js';
 import {SCREENS} from './screens/all.js';
 
-/** What is quick is not worth a line: the strip comes after so many milliseconds. */
+/** What is quick is not worth a line: after how many milliseconds the strip comes. */
 const QUICK = 500;
 
 const [work, place, lastReceipt, asks] = ['work', 'place', 'last', 'asks'].map(id => document.getElementById(id));
 /** @type {Desk} */
 let desk;
 let asking;
+let showSum; // what has become of a sum, by its number
+let purposes;
 /** @type {DeskScreen | null} */
 let shown = null;
 let ends; // when the certificate ends, as the front writes it
@@ -71,11 +77,14 @@ async function setAside(row) {
   await showWaiting();
 }
 
-/** The last receipt can be printed on every screen, until there is another. */
-function offerReceipt(/** @type {JournalRow} */ row) {
+/** The last receipt can be printed on every screen, until there is another. Of a sum it has all that is booked. */
+async function offerReceipt(/** @type {JournalRow} */ made) {
+  const sum = made.noted?.sum ? sumOf(await desk.rows(true), made.noted.sum) : null;
+  const row = sum ? bookedRow(sum) : made;
   receipt = row;
   lastReceipt.replaceChildren(h('span', {}, askedText(row)),
-    button([say('receipt.print'), ...['Esc', 'K'].map(key => h('kbd', {'aria-hidden': 'true'}, key))], () => printReceipt(desk, row)));
+    button([say('receipt.print'), ...['Esc', 'K'].map(key => h('kbd', {'aria-hidden': 'true'}, key))], () => printReceipt(desk, row)),
+    ...sum && !sum.isWhole ? [button(say('parts.open'), () => showSum(sum.id))] : []);
 }
 
 /** What the desk reports. */
@@ -84,15 +93,23 @@ async function report(event, request, reply) {
     menu.showMenu(SCREENS, desk.allowed);
     return;
   }
+  if (event === 'sum') {
+    await showSum(request);
+    return;
+  }
   clearTimeout(quick);
   if (event === 'sending') {
     quick = Number(setTimeout(showWaiting, QUICK));
     return;
   }
-  if (event !== 'again') outcome.show(event, request, reply);
-  if (event === 'done' && hasReceipt(request)) offerReceipt(request);
-  if (event === 'refused') outcome.add(asking.offer(request, reply));
+  const isJudged = event === 'done' || event === 'refused';
+  if (isJudged && request.noted?.sum) await showSum(request.noted.sum);
+  else if (event !== 'again') outcome.show(event, request, reply);
+  if (event === 'done' && hasReceipt(request)) await offerReceipt(request);
+  if (event === 'refused' && !request.noted?.sum) outcome.add(asking.offer(request, reply));
   if (event === 'done') asking.noticed(request, reply);
+  if (event === 'done' && request.noted?.purpose) purposes.send();
+  if (isJudged) await accountSettled(desk, request, event);
   const bearsSlip = request && !request.kind;
   if (bearsSlip) last = event === 'again' ? {reply} : null;
   if (bearsSlip || event === 'session') await showWaiting();
@@ -130,6 +147,20 @@ async function showScreen(isAgain = false) {
   if (isAgain && document.getElementById('menu').contains(document.activeElement)) return;
   if (made.focus) made.focus();
   else work.focus({preventScroll: true});
+}
+
+/** What was typed for an operation waits for a colleague now, so its screen is emptied for the next customer. */
+async function emptied(/** @type {string} */ name) {
+  const id = {'drawer-on': 'drawer', 'move-cash': 'cash'}[name] ?? name;
+  forgetDraft(id);
+  if (shown?.id !== id) return;
+  history.replaceState(null, '', `#${id}`);
+  await showScreen(true);
+}
+
+/** Once another account is typed, what was refused before is another customer's. */
+function nextCustomer(/** @type {any} */ {target}) {
+  if (target.closest('[data-name="account"], [data-name="source"]')) outcome.clearRefused();
 }
 
 /** Escape leads to the menu; there a letter leads to a screen, and arrows lead up and down. */
@@ -206,8 +237,12 @@ async function begin() {
   await store.forget(now());
   desk = await makeDesk({store, badge, report});
   desk.office = makeOffice(badge);
-  asking = makeAsking({desk, office: desk.office, strip: asks, note: outcome.note});
-  watchNames(work, desk.office);
+  asking = makeAsking({desk, office: desk.office, strip: asks, note: outcome.note, asked: emptied});
+  desk.askFor = asking.askFor;
+  showSum = makeSumPanel({desk, asking});
+  purposes = makePurposes(desk, store, ({body}) => outcome.add(h('p', {}, say('purpose.refused', {why: body?.office ?? ''}))));
+  watchNames(work, desk);
+  work.addEventListener('input', nextCustomer);
   menu.showMenu(SCREENS, desk.allowed);
   addEventListener('hashchange', () => showScreen());
   addEventListener('keydown', pressed);
@@ -219,9 +254,15 @@ async function begin() {
   if (!desk.session) history.replaceState(null, '', '#session');
   await showScreen();
   await showWaiting();
-  const left = leftText(await desk.lastRequest());
-  if (left) outcome.note(left, '');
+  const begun = lastSum(await desk.rows(true));
+  if (begun && begun.done.length > 0 && !begun.isWhole) {
+    await showSum(begun.id);
+    await offerReceipt(begun.done.at(-1));
+  }
+  await resumeCustomers(desk);
   asking.start();
+  purposes.send();
+  watchDrawer(desk, document.getElementById('moved'));
   lockAfter({isSame: isSameCard, leave: () => location.reload()});
   if (desk.session) desk.run();
 }

@@ -1,4 +1,4 @@
-// Names of users, where somebody who may see the listing of the policy has had it shown on this machine.
+// Names of users, if somebody who may see the listing of the policy has looked at it on this machine.
 import {say} from './words.js';
 
 /** @type {Map<number, string>} */

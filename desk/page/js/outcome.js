@@ -10,12 +10,16 @@ const panel = document.getElementById('outcome');
 const signInLink = () => h('a', {href: '#session'}, say('signIn'));
 
 /** What is shown where a request was not sent, or its reply not read. */
-const NOTES = ['held', 'nosession', 'unkept', 'unreadable'];
+const NOTES = ['held', 'nosession', 'unkept', 'unreadable', 'teller'];
 
 export const clear = () => panel.replaceChildren();
 
-function put(kind, title, ...more) {
-  panel.replaceChildren(h('div', {class: `outcome ${kind}`, role: kind === 'refused' ? 'alert' : null}, h('h2', {}, title), more));
+/** Clears a refusal of which nothing is left to be done. */
+export const clearRefused = () => { if (panel.querySelector('.refused:not(.begun)')) clear(); };
+
+/** Shows something of a kind: `done`, `refused` or `noted`. */
+export function put(/** @type {string} */ kind, /** @type {string} */ title, ...more) {
+  panel.replaceChildren(h('div', {class: `outcome ${kind}`, role: kind.startsWith('refused') ? 'alert' : null}, h('h2', {}, title), more));
 }
 
 /** Something more about what is shown. */
@@ -52,8 +56,10 @@ export function unanswered(/** @type {BankReply} */ reply, /** @type {string} */
 function refused(request, reply) {
   const {title, advice, rule} = refusalText(reply.body, request.name);
   const canSignIn = reply.body.rule === 1 && request.kind !== 'session';
+  const isOver = request.state === 'refused'; // what bore a number, and was judged
   put('refused', say(request.state === 'waiting' ? 'notYet' : 'notDone'), h('p', {class: 'asked'}, askedText(request)),
-    h('p', {class: 'reason'}, title), h('p', {}, advice), canSignIn ? h('p', {}, signInLink()) : null, h('p', {class: 'small'}, rule));
+    h('p', {class: 'reason'}, title), h('p', {}, advice), isOver ? h('p', {}, say('refused.nothing')) : null,
+    canSignIn ? h('p', {}, signInLink()) : null, h('p', {class: 'small'}, rule));
 }
 
 /** What the desk reports, where it is to be shown here. */

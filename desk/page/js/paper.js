@@ -10,7 +10,7 @@ const paper = document.getElementById('receipt');
 /** Prints the receipt of a row of the journal, with the balance where the bank shows it to this user. */
 export async function printReceipt(/** @type {Desk} */ desk, /** @type {JournalRow} */ row) {
   const account = accountOf(row);
-  const {bank, title, lines} = receiptOf(row, account !== null && await desk.showsBalance(account));
+  const {bank, title, lines} = receiptOf(row, account !== null && await desk.balanceOf(account) !== null, await desk.ownName());
   for (const name of account === null ? [] : await ownersOf(desk, account)) lines.push([say('office.holder', {account}), name]);
   paper.replaceChildren(h('p', {class: 'bank'}, bank), h('h2', {}, title),
     h('dl', {}, lines.map(([label, value]) => h('div', {}, h('dt', {}, label), h('dd', {}, value)))),

@@ -19,29 +19,15 @@ export function inParts(/** @type {number | null} */ cents, /** @type {string} *
   return count > 1 ? say('parts.reads', {sentence, parts: count, most: showAmount(MOST_PER_ENTRY)}) : sentence;
 }
 
-/**
- * Has an amount done in parts, one after another, and stops at the first that is not done. `bodyOf(part)` is the body of a part;
- * `tell(text)` says how far it came. Returns the state of the last that was sent.
- */
-export async function actInParts(/** @type {Desk} */ desk, name, cents, bodyOf, release, tell) {
-  const parts = partsOf(cents);
-  if (parts.length === 1) return desk.act(name, bodyOf(cents), release);
-  let done = 0;
-  for (const [at, part] of parts.entries()) {
-    const state = await desk.act(name, bodyOf(part), null, {part: at + 1, parts: parts.length});
-    if (state !== 'done') {
-      tell(say('parts.stopped', {done: at, parts: parts.length, amount: showAmount(done), total: showAmount(cents)}));
-      return state;
-    }
-    done += part;
-  }
-  tell(say('parts.all', {parts: parts.length, total: showAmount(cents)}));
-  return 'done';
+/** The cents that the body of an operation moves. */
+export const centsOf = body => Math.abs(body.delta ?? body.amount);
+
+/** The body that moves other cents the same way. */
+export function withCents(body, /** @type {number} */ cents) {
+  return 'delta' in body ? {...body, delta: body.delta < 0 ? -cents : cents} : {...body, amount: cents};
 }
 
-/** What is said of an amount of whose parts some were done when the page ended, by the last row of the journal; '' for nothing. */
-export function leftText(row) {
-  const {part, parts} = row?.noted ?? {};
-  if (parts === undefined || (row.state === 'done' && part === parts)) return '';
-  return say('parts.left', {done: row.state === 'done' ? part : part - 1, parts});
+/** The operations of one request in the queue as one, with what they move together. */
+export function wholeOf(operations) {
+  return withCents(operations[0], operations.reduce((sum, one) => sum + centsOf(one), 0));
 }

@@ -24,11 +24,21 @@ export function checkList(proof) {
     on.length === 0 ? h('li', {class: 'agrees'}, say('proof.free')) : null);
 }
 
+/** Of a proof what a teller sees: the cash of the own drawer, by the bank. */
+export function ownDrawerPaper(proof, /** @type {number} */ teller, /** @type {string} */ caption) {
+  const rows = proof.tellers.filter(one => one.teller === teller).map(({cash, holder}) => [teller, showAmount(cash), holderText(holder)]);
+  const columns = [[say('drawer.number'), 'n'], [say('drawer.cash'), 'n'], [say('column.holder'), '']];
+  return [h('div', {class: 'tools'}, button(say('print'), () => print())),
+    h('div', {class: 'paper'}, h('p', {class: 'head'}, caption), table(say('proof.drawersTable'), columns, rows))];
+}
+
+const holderText = holder => (holder === 0 ? '' : nameOf(holder));
+
 /** A proof on paper; `caption` says of which branch and day, and when it was asked for by whom. */
 export function proofPaper(proof, /** @type {string} */ text, /** @type {string} */ caption) {
-  const drawers = [[say('drawer.number'), 'n'], [say('column.balance'), 'n'], [say('drawer.cash'), 'n'], [say('column.holder'), '']];
+  const drawers = [[say('drawer.number'), 'n'], [say('drawer.cash'), 'n'], [say('column.holder'), ''], [say('proof.booked'), 'n']];
   const tellers = proof.tellers.map(({teller, balance, cash, holder}) => [
-    teller, showAmount(balance), showAmount(cash), holder === 0 ? '' : nameOf(holder),
+    teller, showAmount(cash), holderText(holder), showAmount(balance),
   ]);
   const sums = Object.entries(SUMS).map(([name, key]) => [say(key), showAmount(proof.sums[name])]);
   const readable = h('div', {}, h('p', {class: 'head'}, caption),

@@ -2,6 +2,7 @@
 // cash or a count.
 import {showAmount} from './amounts.js';
 import {showTime} from './dates.js';
+import {centsOf} from './parts.js';
 import {notedText} from './journal.js';
 import {differenceText, placesOf} from './operations.js';
 import {BANK, CURRENCY} from './settings.js';
@@ -26,19 +27,30 @@ const moveLine = b => line('moved', say(`receipt.move.${placesOf(b)}`, b));
 const balanceLine = (account, cents) => [say('receipt.balance', {account}), showAmount(cents)];
 const entriesLine = r => line('entries', say('receipt.both', r));
 
-function postLines(b, r, shows) {
+/** The entries of a request; of one in parts each with its amount. */
+function entryLines({reply, parts}) {
+  if (!parts) return [JSON.parse(reply)].map(r => (r.entry === undefined ? entriesLine(r) : line('entry', r.entry)));
+  return parts.map(row => {
+    const found = JSON.parse(row.reply);
+    return [say(found.entry === undefined ? 'receipt.parts' : 'receipt.part', found), showAmount(centsOf(JSON.parse(row.body)))];
+  });
+}
+
+const purposeLines = row => (row.noted?.purpose ? [/** @type {Line} */ ([say('purpose'), row.noted.purpose])] : []);
+
+function postLines(b, r, shows, row) {
   const balance = shows ? [balanceLine(b.account, r.balance)] : [];
-  return [line('account', b.account), amountLine(Math.abs(b.delta)), ...balance, line('entry', r.entry)];
+  return [line('account', b.account), amountLine(Math.abs(b.delta)), ...purposeLines(row), ...balance, ...entryLines(row)];
 }
 
-function transferLines(b, r, shows) {
+function transferLines(b, r, shows, row) {
   const balance = shows ? [balanceLine(b.source, r.source)] : [];
-  return [line('from', b.source), line('to', b.target), amountLine(b.amount), ...balance, entriesLine(r)];
+  return [line('from', b.source), line('to', b.target), amountLine(b.amount), ...purposeLines(row), ...balance, ...entryLines(row)];
 }
 
-function correctLines(b, r) {
+function correctLines(b, r, shows, row) {
   const accounts = b.other === 0 ? [line('account', b.account)] : [line('account', b.account), line('other', b.other)];
-  return [line('corrects', b.entry), ...accounts, amountLine(Math.abs(b.delta)), b.other === 0 ? line('entry', r.entry) : entriesLine(r)];
+  return [line('corrects', b.entry), ...accounts, amountLine(Math.abs(b.delta)), ...entryLines(row)];
 }
 
 function countLines(b, r, shows, row) {
@@ -61,14 +73,19 @@ export function accountOf(/** @type {JournalRow} */ row) {
   return row.name === 'transfer' ? body.source : null;
 }
 
-/** The receipt of a row: {title, lines}, each line [label, value]. Without `showsBalance` it has no balance. */
-export function receiptOf(/** @type {JournalRow} */ row, /** @type {boolean} */ showsBalance) {
+/**
+ * The receipt of a row, or of what is booked of a sum: {title, lines}, each line [label, value]. Without `showsBalance` it has no
+ * balance; `name` is the teller's, where it is known.
+ */
+export function receiptOf(/** @type {JournalRow} */ row, /** @type {boolean} */ showsBalance, /** @type {string | null} */ name = null) {
   const [body, reply] = [JSON.parse(row.body), JSON.parse(row.reply)];
   const {title, lines} = RECEIPTS[row.name];
   const own = lines(body, reply, showsBalance, row);
-  const teller = body.teller === undefined ? row.badge : say('receipt.atDrawer', {badge: row.badge, teller: body.teller});
+  const badge = name ?? row.badge;
+  const teller = body.teller === undefined ? badge : say('receipt.atDrawer', {badge, teller: body.teller});
   return {bank: BANK, title: say(title(body)), lines: [
     line('branch', body.branch), line('teller', teller), ...own,
-    line('currency', CURRENCY.name), line('number', row.slip), line('time', showTime(row.answered)),
+    line('currency', CURRENCY.name), line('number', (row.parts ?? [row]).map(one => one.slip).join(say('office.comma'))),
+    line('time', showTime(row.answered)),
   ].map(([label, value]) => [label, String(value)])};
 }

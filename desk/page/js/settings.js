@@ -24,13 +24,13 @@ export const PAPER = 'roll';
 /** From this difference on, in the smallest unit, a count takes a reason and a colleague's user number. */
 export const DIFFERENCE_BOUND = 1000;
 
-/** After so many minutes without a key or a click the page locks. */
+/** How many minutes without a key or a click lock the page. */
 export const LOCK_MINUTES = 10;
 
-/** From so many days on before a certificate ends the page says so, and from the second number on more plainly. */
+/** How many days before a certificate ends the page says so; from the second number on more plainly. */
 export const CERTIFICATE_DAYS = [30, 7];
 
-/** By so many seconds a machine's clock may differ from the front's before that is said. */
+/** By how many seconds a machine's clock may differ from the front's before the page says so. */
 export const CLOCK_SECONDS = 60;
 
 /** For how many days a browser keeps its journal. A request that waits stays, however old it is. */

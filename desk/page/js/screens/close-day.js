@@ -3,7 +3,7 @@ import {form} from '../form.js';
 import {branchField} from '../fields.js';
 import {now, plainDay, showClock, showDay, showTime} from '../dates.js';
 import {readProof} from '../reports.js';
-import {checkList, proofPaper} from '../proof-paper.js';
+import {checkList, ownDrawerPaper, proofPaper} from '../proof-paper.js';
 import {lastClosing} from '../known-entries.js';
 import {confirmed} from '../dialog.js';
 import {say} from '../words.js';
@@ -34,7 +34,8 @@ async function make(/** @type {Desk} */ desk, {given}) {
   }
 
   function show({proof, text}, caption) {
-    paper.replaceChildren(checkList(proof), ...proofPaper(proof, text, caption));
+    if (desk.isTeller()) paper.replaceChildren(...ownDrawerPaper(proof, desk.place.teller, caption));
+    else paper.replaceChildren(checkList(proof), ...proofPaper(proof, text, caption));
   }
 
   /** Shows the proof of a day that was closed, and keeps it in the journal. */

@@ -1,13 +1,10 @@
-import {h, button} from '../dom.js';
+import {h} from '../dom.js';
 import {form} from '../form.js';
 import {field, account, amount, release, amountText} from '../fields.js';
 import {lacksDrawer} from './post.js';
-import {isDue, moveAfter} from '../cash-due.js';
-import {moveLink} from './move-cash.js';
-import {showAmount} from '../amounts.js';
-import {now} from '../dates.js';
+import {moveAfter} from '../cash-due.js';
+import {offerMove} from '../due-moves.js';
 import {say} from '../words.js';
-import * as outcome from '../outcome.js';
 
 /** What an entry can have been: the way of its money, and whether it was a transfer's. */
 const KINDS = [['in', 'in'], ['out', 'out'], ['in-transfer', 'in'], ['out-transfer', 'out']];
@@ -30,16 +27,6 @@ function sentence(desk, {entry, kind, amount: cents, account: of, drawer}) {
   const values = {entry, amount: amountText(cents), account: of, teller: desk.place.teller, drawer};
   if (isTransfer(kind)) return say(`correct.reads.${kind}`, values);
   return say(drawer === desk.place.teller ? `correct.reads.${kind}.same` : `correct.reads.${kind}`, values);
-}
-
-/** The next request after a correction: cash that has to be moved between the two drawers. */
-async function offerMove(desk, move) {
-  const at = now();
-  await desk.setDueMoves([...desk.dueMoves.filter(one => isDue(one, at)), {...move, at}]);
-  const values = {amount: showAmount(move.amount), source: move.source, target: move.target};
-  const isOwn = move.source === desk.place.teller;
-  outcome.add(h('p', {class: 'due'}, say(isOwn ? 'due.own' : 'due.other', values)),
-    isOwn ? button(say('due.button', values), () => { location.hash = moveLink(move); }) : null);
 }
 
 async function make(desk, {given}) {

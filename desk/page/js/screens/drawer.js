@@ -2,7 +2,7 @@ import {h} from '../dom.js';
 import {form} from '../form.js';
 import {field, release} from '../fields.js';
 import {counting} from '../counting.js';
-import {cashOver, expectedCash} from '../drawer-cash.js';
+import {cashOver, knownOf} from '../drawer-cash.js';
 import {cashChart} from '../chart.js';
 import {showAmount} from '../amounts.js';
 import {countMeant} from '../second-look.js';
@@ -14,20 +14,6 @@ function expectedLine({cents, isOfBank}) {
   const key = cents === null ? 'drawer.unknown' : isOfBank ? 'drawer.expected.bank' : 'drawer.expected';
   const text = say(key, {expected: cents === null ? '' : showAmount(cents)});
   return h('details', {class: 'expected'}, h('summary', {}, say('drawer.should')), h('p', {'data-name': 'expected'}, text));
-}
-
-/**
- * What is known of a drawer: {isOn, cents, isOfBank}, by what was done at this machine, or else by the proof, where the bank shows
- * it to this user.
- */
-async function knownOf(/** @type {Desk} */ desk, teller) {
-  const rows = await desk.drawerRows();
-  const cents = expectedCash(rows, teller);
-  const isOn = cashOver(rows, teller).isOn;
-  if (cents !== null || teller === null) return {isOn, cents, isOfBank: false};
-  const found = (await desk.quietProof(desk.place.branch))?.tellers.find(one => one.teller === teller);
-  if (!found) return {isOn, cents, isOfBank: false};
-  return {isOn: found.holder !== 0, cents: found.holder === 0 ? null : found.cash, isOfBank: true};
 }
 
 /** Puts a drawer on or off, or says why not: the state that a form gets. */
@@ -42,7 +28,7 @@ async function sent(/** @type {Desk} */ desk, {way, teller: of, cash, release: n
     if (state === 'done') await desk.setPlace({branch, teller: of});
     return state;
   }
-  const noted = await countMeant(of, (await knownOf(desk, of)).cents, cash);
+  const noted = await countMeant(of, await knownOf(desk, of), cash);
   return noted === null ? 'kept' : desk.act('drawer-off', {branch, counted: cash, teller: of}, null, noted);
 }
 

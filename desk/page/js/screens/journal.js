@@ -4,6 +4,7 @@ import {differenceText} from '../operations.js';
 import {cashOver} from '../drawer-cash.js';
 import {cashChart} from '../chart.js';
 import {hasReceipt} from '../receipt.js';
+import {bookedRow, linesOf} from '../sums.js';
 import {printReceipt} from '../paper.js';
 import {showChange} from '../amounts.js';
 import {now, plainDay, showTime, showWhen} from '../dates.js';
@@ -37,15 +38,23 @@ function cashSection(desk, rows) {
 /** What can be printed or shown again of a row. */
 function paperOf(desk, row) {
   if (row.paper) return h('a', {href: `#day?kept=${row.id}`, 'aria-label': say('journal.show', {asked: row.text})}, say('show'));
-  if (!hasReceipt(row)) return '';
-  return button(say('print'), () => printReceipt(desk, row), {class: 'line', 'aria-label': say('journal.print', {number: row.slip})});
+  const {sum} = row;
+  const booked = sum?.done.length > 0 ? bookedRow(sum) : row;
+  if (!hasReceipt(booked)) return '';
+  const label = say('journal.print', {number: booked.slip});
+  const print = button(say('print'), () => printReceipt(desk, booked), {class: 'line', 'aria-label': label});
+  const open = () => desk.report('sum', sum.id);
+  return row.state === 'partly' ? [print, button(say('parts.open'), open, {class: 'line'})] : print;
 }
+
+/** The number of a request, or of each part of a sum. */
+const numbersOf = row => (row.sum ? row.sum.rows.map(one => one.slip).join(say('office.comma')) : row.slip ?? '');
 
 function cellsOf(desk, row, isAll) {
   const state = h('span', {class: `mark ${row.state}`}, stateText(row));
   const noted = notedText(row);
   const end = noted ? [h('p', {}, endText(row)), h('p', {}, noted)] : endText(row);
-  return [isAll ? showTime(row.at) : showWhen(row.at), askedText(row), state, end, row.slip ?? '', row.tries ?? 1, paperOf(desk, row)];
+  return [isAll ? showTime(row.at) : showWhen(row.at), askedText(row), state, end, numbersOf(row), row.tries ?? 1, paperOf(desk, row)];
 }
 
 async function make(/** @type {Desk} */ desk) {
@@ -62,7 +71,7 @@ async function make(/** @type {Desk} */ desk) {
     rows = found;
     const isSince = !isAll && desk.shiftBegan > 0;
     const caption = say(isSince ? 'journal.since' : 'journal.caption', {badge: desk.badge, time: isSince ? showTime(desk.shiftBegan) : ''});
-    paper.replaceChildren(table(caption, columns(), rows.map(row => cellsOf(desk, row, isAll)).reverse(), {class: 'journal'}));
+    paper.replaceChildren(table(caption, columns(), linesOf(rows).map(row => cellsOf(desk, row, isAll)).reverse(), {class: 'journal'}));
   }
 
   await show(false);

@@ -2,7 +2,7 @@ import {h} from '../dom.js';
 import {form} from '../form.js';
 import {field, amount, release, amountText} from '../fields.js';
 import {showAmount} from '../amounts.js';
-import {isDue, withoutMove} from '../cash-due.js';
+import {isDue, moveLink, withoutMove} from '../cash-due.js';
 import {now} from '../dates.js';
 import {placesOf} from '../operations.js';
 import {say} from '../words.js';
@@ -13,9 +13,6 @@ const placeOf = (which, other) => (which === 'other' ? other : Number(which));
 function moveText(move) {
   return say(`cash.${placesOf(move)}`, {...move, amount: amountText(move.amount)});
 }
-
-/** The address of this screen with a move filled in. */
-export const moveLink = ({source, target, amount: cents}) => `#cash?from=${source}&to=${target}&amount=${showAmount(cents)}`;
 
 /** What is to be moved out of the drawer of whoever works here, each as a link that fills it in. */
 function dueList(desk) {

@@ -2,14 +2,13 @@ import {h, table, button, exactToggle} from '../dom.js';
 import {form} from '../form.js';
 import {field, amount} from '../fields.js';
 import {showAmount} from '../amounts.js';
-import {showTime} from '../dates.js';
+import {exampleDay, isMoment, showTime} from '../dates.js';
 import {readPolicy} from '../reports.js';
 import {confirmed} from '../dialog.js';
 import {KINDS, PROCEDURES, FOREVER, bodyOf} from '../policy-commands.js';
 import {say} from '../words.js';
 import * as outcome from '../outcome.js';
 
-const MOMENT = /^[0-9]{4}-[0-9]{2}-[0-9]{2}( [0-9]{2}:[0-9]{2}(:[0-9]{2})?)?$/;
 const user = () => field({name: 'user', label: say('office.user'), kind: 'number', most: 9999});
 const set = () => field({name: 'set', label: say('column.set'), kind: 'number'});
 const procedure = () => field({
@@ -17,7 +16,8 @@ const procedure = () => field({
 });
 const limit = () => amount({name: 'limit', label: say('column.limit'), least: 0, most: 999999999});
 const moment = name => field({
-  name, label: say(`office.${name}`), kind: 'text', optional: true, pattern: MOMENT, hint: say('moment.hint'), fault: say('moment.fault'),
+  name, label: say(`office.${name}`), kind: 'text', optional: true, pattern: {test: isMoment}, hint: say('moment.hint', {day: exampleDay()}),
+  fault: say('moment.fault', {day: exampleDay()}),
 });
 const userName = () => field({
   name: 'name', label: say('column.name'), kind: 'text', pattern: /^[ -~]{1,20}$/, fault: say('office.name.fault'),
@@ -139,6 +139,7 @@ async function make(/** @type {Desk} */ desk) {
   const which = h('select', {id: 'command', change: choose}, commands);
 
   async function list() {
+    if (paper.childElementCount === 0) paper.replaceChildren(h('p', {class: 'hint', role: 'status'}, say('office.reading')));
     const found = await desk.ask('policy', null, say('asked.policy'), ({text}) => ({rows: readPolicy(text), text}));
     if (!found) return paper.replaceChildren();
     const pairs = found.rows.filter(row => row.kind === 'user').map(({cells}) => [cells.user, cells.name]);

@@ -1,7 +1,8 @@
 import {form} from '../form.js';
-import {account, amount, release, amountText} from '../fields.js';
-import {actInParts, inParts, MOST_AT_ONCE} from '../parts.js';
-import * as outcome from '../outcome.js';
+import {account, amount, purpose, release, amountText} from '../fields.js';
+import {inParts, MOST_AT_ONCE} from '../parts.js';
+import {actInParts} from '../sums.js';
+import {notedPurpose} from '../purposes.js';
 import {wayField} from '../ways.js';
 import {showAmount} from '../amounts.js';
 import {say} from '../words.js';
@@ -26,14 +27,14 @@ function sentence({way, account: of, amount: cents}) {
 
 async function make(desk, {given}) {
   const post = form({
-    fields: [wayField(), account({value: given.get('account') ?? ''}), amount({most: MOST_AT_ONCE}), release()],
+    fields: [wayField(), account({value: given.get('account') ?? ''}), amount({most: MOST_AT_ONCE}), purpose(), release()],
     button: buttonOf,
-    clear: ['way', 'account', 'amount', 'release'],
+    clear: ['way', 'account', 'amount', 'purpose', 'release'],
     reads: sentence,
-    async send({way, account: of, amount: cents, release: by}) {
+    async send({way, account: of, amount: cents, purpose: text, release: by}) {
       const {branch, teller} = desk.place;
-      const bodyOf = part => ({account: of, branch, delta: way === 'out' ? -part : part, teller});
-      return lacksDrawer(desk, 'post') ?? actInParts(desk, 'post', cents, bodyOf, by, outcome.add);
+      const body = {account: of, branch, delta: way === 'out' ? -cents : cents, teller};
+      return lacksDrawer(desk, 'post') ?? actInParts(desk, 'post', body, by, await notedPurpose(desk, text));
     },
   });
   return {elements: post.element, focus: () => post.fields.account.input.focus()};

@@ -2,6 +2,8 @@ import {h, button} from '../dom.js';
 import {form} from '../form.js';
 import {field} from '../fields.js';
 import {confirmed} from '../dialog.js';
+import {cashOver} from '../drawer-cash.js';
+import {nameOf} from '../names.js';
 import {say} from '../words.js';
 import * as outcome from '../outcome.js';
 
@@ -25,17 +27,34 @@ function signOutButton(desk, again) {
   });
 }
 
+/** Whether a drawer is free, or was put on here by whoever signs in; else they are asked whether they hold it. */
+async function isOwn(/** @type {Desk} */ desk, {teller, holder}) {
+  if (holder === 0 || cashOver(await desk.rows(true), teller).isOn) return true;
+  return confirmed(say('session.isOwn', {teller, user: nameOf(holder)}), say('session.mine'));
+}
+
+/** Whether another place is meant than the last, where the bank does not show that it is there. */
+async function isMoved(/** @type {Desk} */ desk, {branch, teller}) {
+  const {branch: before, teller: drawer} = desk.place;
+  const isSame = branch === before && (teller === drawer || teller === null || drawer === null);
+  const values = {branch, before, drawer: drawer ?? say('header.none'), teller: teller ?? say('header.none')};
+  return before === null || isSame || confirmed(say('session.other', values), say('session.here'), [say('session.before', values)]);
+}
+
 /**
- * What is wrong with a branch and a drawer by the proof of that branch, or null: where the bank shows no proof to this user nobody
- * can say. One that was shown the proof of another branch may work here all the same, once they say so again.
+ * What is wrong with a branch and a drawer by the proof of that branch, or null. One that was shown the proof of another branch may
+ * work here all the same, once they say so again; one that is shown none is asked about a place that is another than before.
  */
 async function faultsOf(/** @type {Desk} */ desk, {branch, teller}, isSure) {
   let rule = null;
   const proof = await desk.quietProof(branch, reply => { rule = reply.body?.rule ?? null; });
-  const isMissing = proof && teller !== null && !proof.tellers.some(one => one.teller === teller);
-  if (isMissing) return {teller: say('session.noDrawer', {branch, teller})};
+  const drawer = proof?.tellers.find(one => one.teller === teller);
+  if (proof && teller !== null && !drawer) return {teller: say('session.noDrawer', {branch, teller})};
+  if (drawer && !await isOwn(desk, drawer)) return {teller: say('session.held', {teller, user: nameOf(drawer.holder)})};
   if (rule === 6) return {branch: say('session.noBranch', {branch})};
-  return rule !== null && desk.allowed.proof === true && !isSure ? {branch: say('session.hidden', {branch})} : null;
+  if (proof) return null;
+  if (desk.allowed.proof === true) return rule !== null && !isSure ? {branch: say('session.hidden', {branch})} : null;
+  return await isMoved(desk, {branch, teller}) ? null : {branch: say('refused.nothing')};
 }
 
 async function make(/** @type {Desk} */ desk, {given, changed, again, signIn}) {

@@ -4,8 +4,9 @@ import {field, account} from '../fields.js';
 import {showAmount, showChange} from '../amounts.js';
 import {now, showTime} from '../dates.js';
 import {readStatement} from '../reports.js';
-import {canCorrect, knownEntries, lastClosing} from '../known-entries.js';
+import {canBeAsked, canCorrect, knownEntries, lastClosing} from '../known-entries.js';
 import {lastTurn, LINES_PER_PAGE} from '../last-turn.js';
+import {purposesOf} from '../purposes.js';
 import {say} from '../words.js';
 import {namesText, ownersOf} from '../account-names.js';
 import * as outcome from '../outcome.js';
@@ -62,23 +63,42 @@ function correctLink(of, row, found) {
   return h('a', {href: `#correct?${given}`, 'aria-label': say('statement.correct', {entry: row.entry})}, say('column.correct'));
 }
 
+/** Asks colleagues to correct a line of one's own; all that it takes is in the line and in the journal. */
+function askButton(/** @type {Desk} */ desk, of, row, found) {
+  const {branch, entry, teller, delta} = row;
+  const operation = {account: of, branch, delta, entry, other: found.other ?? 0, procedure: 'correct', teller};
+  const ask = event => {
+    event.target.disabled = true;
+    return desk.askFor('correct', [operation]);
+  };
+  return button(say('column.ask'), ask, {class: 'line', 'aria-label': say('statement.ask', {entry})});
+}
+
+/** What can be done about a line: it is corrected here, or by a colleague whom the office's queue asks. */
+function actOf(/** @type {Desk} */ desk, of, row, known, closed) {
+  const found = known.get(`${row.branch} ${row.entry}`);
+  if (canCorrect(row, known, desk.place, closed, now())) return correctLink(of, row, found);
+  const isAsked = desk.office?.isThere() && canBeAsked(row, known, desk.place, closed, now());
+  return isAsked ? askButton(desk, of, row, found) : '';
+}
+
 /** What is known of a line's entry, as a text. */
-function markOf(found) {
+function markOf(found, purpose = '') {
+  if (purpose !== '') return [markOf(found), purpose].filter(Boolean).join(say('office.comma'));
   if (!found) return '';
   if (found.kind === 'correction') return say('mark.correction');
   if (found.isCorrected) return say('mark.corrected');
   return found.other ? say(`mark.${found.kind}`, {account: found.other}) : '';
 }
 
-function paperOf(desk, of, rows, journal, earlier) {
+function paperOf(desk, of, rows, {journal, purposes}, earlier) {
   const [first, last] = [rows[0], rows.at(-1)];
   const values = {account: of, first: first?.turn, last: last?.turn, balance: last ? showAmount(last.balance) : '', time: showTime(now())};
   const known = knownEntries(journal, desk.badge);
   const cells = rows.map(row => {
     const found = known.get(`${row.branch} ${row.entry}`);
-    const isOpen = canCorrect(row, known, desk.place, lastClosing(journal, row.branch), now());
     return [row.turn, showTime(row.moment * 1000), showChange(row.delta), showAmount(row.balance), row.branch, row.entry, row.teller,
-      markOf(found), isOpen ? correctLink(of, row, found) : ''];
+      markOf(found, purposes.get(`${row.branch} ${row.entry}`)), actOf(desk, of, row, known, lastClosing(journal, row.branch))];
   });
   const caption = say(last ? 'statement.caption' : 'statement.empty', values);
   const readable = table(caption, columns(), cells, {class: 'statement'});
@@ -125,8 +145,9 @@ async function make(/** @type {Desk} */ desk, {given}) {
     };
     try {
       const rows = await lastLines(desk, of, wanted, noting, progress.show);
-      const [journal, owners] = [await desk.allRows(), await ownersOf(desk, of)];
-      paper.replaceChildren(...paperOf(desk, of, rows, journal, () => show(of, wanted * 5)));
+      const [journal, owners, found] = [await desk.allRows(), await ownersOf(desk, of), await desk.office?.purposes(of)];
+      const purposes = found ? purposesOf(found, rows) : new Map();
+      paper.replaceChildren(...paperOf(desk, of, rows, {journal, purposes}, () => show(of, wanted * 5)));
       if (owners.length > 0) paper.querySelector('.paper').prepend(h('p', {class: 'names'}, namesText(of, owners)));
       refocus(paper.querySelector('button'));
       return 'done';

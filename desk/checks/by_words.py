@@ -1,0 +1,211 @@
+"""A day at the page in German, in French and in Spanish, from the sheet for a teller alone: by somebody who knows nothing else of
+the page than what is written on it, and of that what the sheet quotes."""
+import re
+from pathlib import Path
+from typing import NamedTuple
+
+from selenium.webdriver.common.keys import Keys
+
+from branches import require
+from day import TOM
+from languages import speak
+
+DOCS = Path(__file__).resolve().parent.parent.parent / "docs"
+# Read at the start, as the unprivileged user whom the tests become may have no right to read this folder.
+QUOTES = {
+    it: {" ".join(one.split()) for one in re.findall(r"\*\*(.+?)\*\*", (DOCS / f"TELLER.{it}.md").read_text(), re.DOTALL)}
+    for it in ("de", "fr", "es")
+}
+
+DIFFERENCES = "SELECT differences FROM branches WHERE branch = 1"
+
+
+class Words(NamedTuple):
+    """What somebody at the counter reads in the sheet, and looks for on the page."""
+
+    session: str
+    sign_in: str
+    sign_out: str
+    branch: str
+    drawer: str
+    screen_of_drawer: str
+    whole: str
+    put_on: str
+    put_off: str
+    post: str
+    deposit: str
+    withdrawal: str
+    account: str
+    amount: str
+    transfer: str
+    source: str
+    target: str
+    done: str
+    not_done: str
+    above_limit: str
+    close: str
+    proof: str
+
+
+GERMAN = Words(
+    "An- und abmelden", "Anmelden", "Abmelden", "Filiale", "Kasse", "Kasse öffnen, schließen", "Oder der ganze Betrag", "Kasse öffnen",
+    "Kasse schließen", "Ein- und Auszahlung", "Einzahlung", "Auszahlung", "Konto", "Betrag", "Umbuchung", "Von Konto", "Auf Konto",
+    "Erledigt", "Nicht erledigt", "Das ist über Ihrem Limit.", "Tag abschließen", "Tagesabstimmung zeigen")
+FRENCH = Words(
+    "Connexion", "Se connecter", "Se déconnecter", "Agence", "Caisse", "Ouvrir, fermer la caisse", "Ou le montant entier",
+    "Ouvrir la caisse", "Fermer la caisse", "Versement, retrait", "Versement", "Retrait", "Compte", "Montant", "Virement", "Du compte",
+    "Au compte", "Effectué", "Non effectué", "C'est au-dessus de votre limite.", "Clôturer la journée", "Afficher l'arrêté")
+SPANISH = Words(
+    "Iniciar y cerrar sesión", "Iniciar sesión", "Cerrar sesión", "Sucursal", "Caja", "Abrir, cerrar la caja", "O el importe entero",
+    "Abrir la caja", "Cerrar la caja", "Ingreso, reintegro", "Ingreso", "Reintegro", "Cuenta", "Importe", "Traspaso", "De la cuenta",
+    "A la cuenta", "Realizado", "No realizado", "Esto supera su límite.", "Cerrar el día", "Mostrar el cuadre")
+
+
+class Reader:
+    """Somebody who reads: what is seen and says this, and nothing else, is pressed or filled in."""
+
+    def __init__(self, desk):
+        self.desk = desk
+
+    def found(self, css, word):
+        """The last that is seen and has a line that is this word; after that line, there may be the letter of a key."""
+        wanted = re.compile(rf"(?m)^(?:[A-Z]\s)?{re.escape(word)}(?:\s?[A-Z])?$")
+        return next((it for it in reversed(self.desk.all(css)) if wanted.search(it.text)), None)
+
+    def act(self, css, word, act):
+        """Does something with what says this, once it is there."""
+        def is_done():
+            element = self.found(css, word)
+            if element is None:
+                return False
+            act(element)
+            return True
+
+        self.desk.until(is_done, f"{word!r} among {css}")
+
+    def screen(self, word):
+        """Another screen, by the menu."""
+        self.act("nav a", word, lambda it: it.click())
+        self.desk.until(lambda: self.found("h1", word), f"the heading {word!r}")
+
+    def press(self, word):
+        self.act("button", word, lambda it: it.click())
+
+    def choose(self, word):
+        self.act("label", word, lambda it: it.click())
+
+    def fill(self, word, text, *keys):
+        """Fills in the field of a label."""
+        def typed(label):
+            field = self.desk.driver.find_element("id", label.get_attribute("for"))
+            field.send_keys(Keys.CONTROL, "a")
+            field.send_keys(Keys.DELETE, text, *keys)
+
+        self.act("label[for]", word, typed)
+
+    def reads(self, word):
+        """Waits until the page says this."""
+        self.desk.until(lambda: self.found("h2, p, dialog", word), f"{word!r} on the page")
+
+    def sent(self, word):
+        """Waits until the page says this of what was sent, and takes it away, so that it is not read once more."""
+        self.reads(word)
+        self.desk.await_form()
+        self.desk.js("document.getElementById('outcome').replaceChildren()")
+
+
+def drawer_is_put_on(reader, words, cash):
+    """Signs out if a session is open, in, counts, and puts the drawer on."""
+    reader.screen(words.session)
+    if reader.found("button", words.sign_out):
+        reader.press(words.sign_out)
+        reader.desk.until(lambda: reader.found("button", words.sign_in), "signed out")
+    reader.fill(words.branch, "1")
+    reader.fill(words.drawer, "12")
+    reader.press(words.sign_in)
+    reader.desk.until(lambda: reader.found("h1", words.screen_of_drawer) or reader.found("h1", words.post), "signed in")
+    reader.screen(words.screen_of_drawer)
+    reader.fill(words.whole, cash)
+    reader.press(words.put_on)
+    reader.sent(words.done)
+
+
+def money_is_moved(day, reader, words, amounts):
+    """A deposit, a withdrawal and a transfer; and one that is above the limit."""
+    paid_in, paid_out, moved, large = amounts
+    reader.screen(words.post)
+    for way, account, amount in ((words.deposit, "101", paid_in), (words.withdrawal, "102", paid_out)):
+        reader.choose(way)
+        reader.fill(words.account, account)
+        reader.fill(words.amount, amount, Keys.ENTER)
+        reader.sent(words.done)
+    reader.screen(words.transfer)
+    reader.fill(words.source, "101")
+    reader.fill(words.target, "102")
+    reader.fill(words.amount, moved, Keys.ENTER)
+    reader.sent(words.done)
+    reader.screen(words.post)
+    reader.choose(words.deposit)
+    reader.fill(words.account, "101")
+    reader.fill(words.amount, large, Keys.ENTER)
+    reader.reads(words.not_done)
+    reader.reads(words.above_limit)
+    reader.desk.size(1280, 640)
+    day.look(f"refused-{reader.desk.js('return document.documentElement.lang')}")
+    reader.desk.size(1280, 800)
+
+
+def day_is_closed(day, reader, words, left):
+    """Counts the drawer, puts it off, signs out; a supervisor looks at the proof and closes the day."""
+    reader.screen(words.screen_of_drawer)
+    reader.fill(words.whole, left)
+    reader.press(words.put_off)
+    reader.sent(words.done)
+    reader.screen(words.session)
+    reader.press(words.sign_out)
+    reader.desk.until(lambda: reader.found("button", words.sign_in), "signed out")
+    reader.desk.as_user("sue")
+    reader.screen(words.close)
+    reader.fill(words.branch, "1")
+    reader.press(words.proof)
+    reader.desk.until(lambda: reader.desk.all("table"), "the proof")
+    before = day.one("SELECT count(*) FROM proofs")
+    reader.press(words.close)
+    reader.desk.until(lambda: reader.desk.all("dialog"), "a question")
+    reader.press(words.close)
+    reader.sent(words.done)
+    require(day.one("SELECT count(*) FROM proofs"), before + 1, "days that are closed")
+
+
+def day_by_words(day, language, words, amounts, cash, left):
+    """A day by Tom at drawer 12, and what the bank has of it."""
+    require([it for it in words if it not in QUOTES[language]], [], "words that the sheet does not quote")
+    speak(day, language)
+    day.desk.as_user("tom")
+    reader = Reader(day.desk)
+    before, balances, differences = day.entries(), [day.balance(101), day.balance(102)], day.one(DIFFERENCES)
+    drawer_is_put_on(reader, words, cash)
+    require(day.counter.sql("SELECT cash, holder FROM tellers WHERE teller = 12"), [(30000, TOM)], "drawer 12")
+    money_is_moved(day, reader, words, amounts)
+    require(day.entries(), before + 4, "entries: of a transfer there are two")
+    moved = [day.balance(101) - balances[0], day.balance(102) - balances[1]]
+    require(moved, [25050 - 10000, -2000 + 10000], "what came to both accounts")
+    day_is_closed(day, reader, words, left)
+    require(day.counter.sql("SELECT cash, holder FROM tellers WHERE teller = 12"), [(0, 0)], "drawer 12 is off")
+    require(day.one(DIFFERENCES), differences, "the differences of counts")
+    speak(day, None)
+
+
+def sheet_in_german(day):
+    """A day from the German sheet."""
+    day_by_words(day, "de", GERMAN, ("250,50", "20,00", "100,00", "1.500,00"), "300,00", "530,50")
+
+
+def sheet_in_french(day):
+    """A day from the French sheet."""
+    day_by_words(day, "fr", FRENCH, ("250,50", "20,00", "100,00", "1 500,00"), "300,00", "530,50")
+
+
+def sheet_in_spanish(day):
+    """A day from the Spanish sheet."""
+    day_by_words(day, "es", SPANISH, ("250,50", "20,00", "100,00", "1.500,00"), "300,00", "530,50")
