@@ -82,7 +82,7 @@ fn add_branch(lists: &mut Lists, branch: u32) -> Result<Option<()>, Fault> {
     Ok(Some(()))
 }
 
-/// The number of a row of a branch, where each branch has so many.
+/// The number of a row of a branch, if each branch has `count`.
 fn place(branch: u32, count: u32, index: u32) -> u32 {
     branch
         .saturating_sub(1)
@@ -173,7 +173,7 @@ fn partner(number: u32, entries: u32) -> u32 {
     }
 }
 
-/// One of so many accounts, spread over all of them.
+/// One of `accounts` accounts, spread over all of them.
 fn some_account(accounts: u64, branch: u32, number: u32) -> u32 {
     let spread = branch as u64 * 7_919 + number as u64 * 104_729;
     let index = u32::try_from(spread % accounts.max(1)).unwrap_or(0);

@@ -1,5 +1,5 @@
 //! Synthetic banks of a requested size, for the benchmarks. `synthetic_world` makes the books and the policy
-//! of a `Size`: so many branches, entries of each branch, and triples and slips of one user. No contract says
+//! of a `Size`: its branches, entries of each branch, and triples and slips of one user. No contract says
 //! which bank is made: whether its books hold shows only where a program checks it or makes a store of it.
 #![tactic(auto)]
 

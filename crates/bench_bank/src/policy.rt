@@ -17,7 +17,7 @@ const LAST: u32 = 999_999_999;
 /// Up to how many cents each triple goes.
 const LIMIT: u32 = 999_999;
 
-/// A policy with one user who may post by so many triples, and one who certified posts on their sets.
+/// A policy with one user who may post by `triples` triples, and one who certified posts on their sets.
 pub(crate) fn synthetic_policy(alloc: Global, triples: u32) -> Result<Policy, Fault> {
     let mut policy = Policy::new(alloc);
     policy.add_user(user(alloc, USER, "Ann")?)?;

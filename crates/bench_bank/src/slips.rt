@@ -15,7 +15,7 @@ const POST: OperationRow = OperationRow {
 /// What was replied to each.
 const REPLY: &[u8] = b"{\"balance\":1,\"branch\":1,\"entry\":1}";
 
-/// Adds so many slips of the one user, numbered from 1, each taken with the same post.
+/// Adds `slips` slips of the one user, numbered from 1, each taken with the same post.
 pub(crate) fn add_slips(alloc: Global, lists: &mut Lists, slips: u32) -> Result<(), Fault> {
     for number in 1..=slips {
         let reply = REPLY.to_vec(alloc)?;

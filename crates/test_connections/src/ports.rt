@@ -10,7 +10,7 @@ use std::io::{ErrorKind, Write};
 use std::net::{Ipv4Addr, Net, TcpStream};
 use std::test::Fail;
 
-/// How serving so many messages at a port ends, with its line written to this writer.
+/// How serving `requests` messages at a port ends, with its line written to this writer.
 fn ended<W: Write>(
     rt: &HostRuntime,
     port: u16,

@@ -1,6 +1,6 @@
 //! What tests of several crates share, and no test: the sample in lists, what a bank answers to messages by
 //! the sample's badges at a moment that stands still, requests for reports and the bytes of replies, a reader
-//! that comes in pieces, writers that break after so many bytes, a store in lists that reports each call
+//! that comes in pieces, writers that break after n bytes, a store in lists that reports each call
 //! before it is carried out, and one that is shared. Nothing here is proved or used by a program.
 #![tactic(auto)]
 

@@ -4,7 +4,7 @@ use money::Tallied;
 use std::io;
 use std::io::{ErrorKind, Read};
 
-/// Gives one piece and then the other, at most so many bytes a call, and fails at one of its calls.
+/// Gives one piece and then the other, at most `size` bytes a call, and fails at one of its calls.
 #[derive(Drop)]
 pub struct Pieces<'a> {
     piece: &'a [u8],
@@ -15,7 +15,7 @@ pub struct Pieces<'a> {
     fails_at: usize,
 }
 
-/// A reader that gives these pieces, at most so many bytes a call, and fails at this call.
+/// A reader that gives these pieces, at most `size` bytes a call, and fails at call `fails_at`.
 pub fn pieces<'a>(
     (piece, next): (&'a [u8], &'a [u8]),
     size: usize,

@@ -1,4 +1,4 @@
-//! Writers that break after so many bytes.
+//! Writers that break after n bytes.
 
 use crate::runtime::Runtime;
 use money::Tallied;
@@ -14,7 +14,7 @@ pub enum Broken {
     TakesNone,
 }
 
-/// Takes so many bytes, and is broken after them.
+/// Takes `room` bytes, and is broken after them.
 #[derive(Drop)]
 pub struct Sink {
     /// What it took.
@@ -23,7 +23,7 @@ pub struct Sink {
     broken: Broken,
 }
 
-/// A writer that has room for so many bytes.
+/// A writer that has room for `room` bytes.
 pub fn sink(rt: &impl Runtime, room: usize, broken: Broken) -> Tallied<Sink> {
     Tallied::new(Sink {
         bytes: Vec::new(rt.alloc()),

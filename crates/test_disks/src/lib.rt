@@ -1,4 +1,4 @@
-//! What tests of banks in files share, and no test: files in memory that fail after so many calls, and what
+//! What tests of banks in files share, and no test: files in memory that fail after n calls, and what
 //! they hold then; what is done with the bank in a database, and what comes of it; requests and reports
 //! with the replies that are due; and snapshots of a bank. Nothing here is proved or used by a program.
 #![tactic(auto)]

@@ -110,7 +110,7 @@ fn to_sink(rt: &impl AllocGlobal, fails_at: usize) -> Tallied<Sink> {
     sink(rt.alloc(), fails_at)
 }
 
-/// Serves the input in pieces of a size, at most so many messages, with a reader and a writer that fail at a call.
+/// Serves the input in pieces of a size, at most `most` messages, with a reader and a writer that fail at a call.
 pub fn serve(
     rt: &(impl Abort + AllocGlobal),
     input: &[u8],

@@ -5,7 +5,7 @@ use http_messages::Served;
 use std::process::Abort;
 use std::time::{CpuClock, Duration};
 
-/// A head that ends with a field of so many bytes. It states no body, or the longest.
+/// A head of `len` bytes, which ends with a field. It states no body, or the longest.
 fn head(rt: &(impl Abort + AllocGlobal), len: usize, states_body: bool) -> Vec<u8> {
     let mut head = Vec::new(rt.alloc());
     let line: &[u8] = if states_body {

@@ -47,7 +47,7 @@ fn first_is(rt: &impl Abort, rows: &ClosingRows, rule: Option<Rule>) {
     assert!(rt; rule_against_close_day(rows) == rule);
 }
 
-/// The history of a branch on this day, with so many entries.
+/// The history of a branch on this day, with `entries` entries.
 fn ledger(day: u32, entries: u64) -> Ledger {
     Ledger {
         day,

@@ -74,8 +74,8 @@ fn a_correction_writes_its_cash(rt: HostRuntime) {
     lines_end_with(&rt, &world, 5, &[cash]);
 }
 
-/// The rows of the correction of a post of so many cents by Tom. Its numbers stand so, those of the post, and there are
-/// so many turns of the account, entries and lines.
+/// The rows of the correction of a post of `added` cents by Tom, with these numbers, and `counts`
+/// of turns of the account, entries and lines.
 fn rows_of_post(rt: &impl Abort, added: i64, numbers: [i64; 7], counts: [u64; 3]) -> CorrectRows {
     let rows = rows_at(rt, numbers, counts);
     let entry = Entry {
@@ -95,7 +95,7 @@ fn rows_of_post(rt: &impl Abort, added: i64, numbers: [i64; 7], counts: [u64; 3]
     }
 }
 
-/// Asks for this first rule against the correction at teller 11 of a post of so many cents or, where there is another
+/// Asks for this first rule against the correction at teller 11 of a post of `added` cents or, if there is another
 /// account, of a transfer.
 fn first_is(rt: &impl Abort, rows: &CorrectRows, other: u32, added: i64, rule: Option<Rule>) {
     let first = rule_against_correct(rows, &correct(rt, other, 11, added), BY_TESS);
@@ -123,8 +123,8 @@ fn a_correction_of_a_post_needs_a_number_of_each_kind(rt: HostRuntime) {
     }
 }
 
-/// The rows of the correction of a transfer of 1.00 to account 102 by Tom. There are so many turns of each account, and
-/// so many entries. It writes no line, and so needs no number of one.
+/// The rows of the correction of a transfer of 1.00 to account 102 by Tom. `counts` are turns of each account, and
+/// entries. It writes no line, and so needs no number of one.
 fn rows_of_transfer(rt: &impl Abort, counts: [u64; 3]) -> CorrectRows {
     let [turns, other_turns, entries] = counts;
     let leg = Entry {

@@ -52,7 +52,7 @@ pub(crate) fn apply(rt: &impl Abort, alloc: Global, world: &mut World, plan: Pla
     world.apply(alloc, plan).expect(rt, "memory");
 }
 
-/// Asks for so many lines of a bank, of which these are the last.
+/// Asks for `count` lines of a bank, of which these are the last.
 pub(crate) fn lines_end_with(rt: &impl Abort, world: &World, count: usize, last: &[CashLine]) {
     assert!(rt; world.lines().len() == count);
     assert!(rt; world.lines().ends_with(last));

@@ -48,7 +48,7 @@ fn a_post_writes_its_cash(rt: HostRuntime) {
 
 /// The rows of a post with these numbers, in cents: the balance of account 101, the balance of teller 11 and the cash of
 /// drawer 11, which Tess holds, the balance of branch 1 and the sum of its history, the sum of its drawers and that of its
-/// cash that came with entries. There are so many turns of the account, entries and lines.
+/// cash that came with entries. `counts` are turns of the account, entries and lines.
 pub(crate) fn rows_at(rt: &impl Abort, numbers: [i64; 7], counts: [u64; 3]) -> PostRows {
     let [
         account,
@@ -81,7 +81,7 @@ pub(crate) fn rows_at(rt: &impl Abort, numbers: [i64; 7], counts: [u64; 3]) -> P
     }
 }
 
-/// Asks for this first rule against a post of so many cents.
+/// Asks for this first rule against a post of `added` cents.
 fn first_is(rt: &impl Abort, rows: &PostRows, added: i64, rule: Option<Rule>) {
     let first = rule_against_post(rows, &post_of(rt, added), BY_TESS);
     assert!(rt; first == rule);

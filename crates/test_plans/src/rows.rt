@@ -75,7 +75,7 @@ pub(crate) fn delta(rt: &impl Abort, value: i64) -> Delta
     Delta::new(value).expect(rt, "what an entry may add")
 }
 
-/// An account of branch 1 with this balance and so many turns, which may not fall below zero.
+/// An account of branch 1 with this balance and this number of turns, which may not fall below zero.
 pub(crate) fn account_with(
     rt: &impl Abort,
     account: u32,

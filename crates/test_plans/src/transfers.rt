@@ -16,7 +16,7 @@ const AT_TELLER_11: Transfer = Transfer {
     amount: 100,
 };
 
-/// The rows of a transfer between accounts that have 1.00. There are so many turns of each, and so many entries.
+/// The rows of a transfer between accounts that have 1.00. `counts` are turns of each, and entries.
 fn counted_rows(rt: &impl Abort, counts: [u64; 3]) -> TransferRows {
     let [source, target, entries] = counts;
     TransferRows {

@@ -30,7 +30,7 @@ const ON_12: DrawerOn = DrawerOn {
     cash: 5_000,
 };
 
-/// A drawer of branch 1 in which so many cents were counted.
+/// A drawer of branch 1 in which `counted` cents were counted.
 fn off(rt: &impl Abort, teller: u32, counted: i64) -> DrawerOff {
     DrawerOff {
         teller,
@@ -77,7 +77,7 @@ fn a_drawer_put_off_writes_three_lines(rt: HostRuntime) {
     lines_end_with(&rt, &world, 7, &lines);
 }
 
-/// The rows of a drawer of Tess's that holds 1.00. The cash book has so many lines, and its differences come to this.
+/// The rows of a drawer of Tess's that holds 1.00. The cash book has `lines` lines, and `differences` is their sum.
 fn held_rows(rt: &impl Abort, lines: u64, differences: i128) -> DrawerRows {
     DrawerRows {
         teller: Some(teller_with(rt, 100)),
@@ -91,7 +91,7 @@ fn held_rows(rt: &impl Abort, lines: u64, differences: i128) -> DrawerRows {
     }
 }
 
-/// Asks for this first rule against drawer 11 as Tess puts it off, with so many cents counted.
+/// Asks for this first rule against drawer 11 as Tess puts it off, with `counted` cents counted.
 fn first_off_is(rt: &impl Abort, rows: &DrawerRows, counted: i64, rule: Option<Rule>) {
     let first = rule_against_drawer_off(rows, &off(rt, 11, counted), BY_TESS);
     assert!(rt; first == rule);

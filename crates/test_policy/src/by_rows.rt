@@ -75,7 +75,7 @@ fn opening(account: u32) -> Op {
     })
 }
 
-/// The first rule against Sue's opening an account at a branch that has so many.
+/// The first rule against Sue's opening an account at a branch that has this number of them.
 fn first_against_opening(
     rt: &impl Abort,
     alloc: Global,
@@ -97,7 +97,7 @@ fn slip_of_opening(alloc: Global, account: u32) -> Slip {
     Slip::new(9, 5, opening(account).to_row(), Vec::new(alloc))
 }
 
-/// The first rule against Sue's opening of an account with her slip 5, of which that is found, where she has so many.
+/// The first rule against Sue's opening of an account with her slip 5, of which that is found, if she has this number of slips.
 fn first_with_slip(
     rt: &impl Abort,
     alloc: Global,

@@ -170,7 +170,7 @@ fn a_valid_release_is_by_another_who_has_a_triple(rt: HostRuntime) {
     is_not_valid(&rt, alloc, by_one_without_a_triple);
 }
 
-/// The first rule against Sue's giving a user a release for that post, where they have so many.
+/// The first rule against Sue's giving a user a release for that post, if they have `given`.
 fn first_against_giving(
     rt: &impl Abort,
     alloc: Global,

@@ -99,7 +99,7 @@ fn lines_of_the_policy(rt: HostRuntime) {
     assert!(rt; text.as_slice() == LISTING.as_bytes());
 }
 
-/// The line of a user whose name has so many bytes.
+/// The line of a user whose name has `len` bytes.
 fn line_of_name(rt: &impl Runtime, len: usize) -> Option<Line> {
     let name = "x".repeat(rt.alloc(), len).expect(rt, "memory");
     policy_line(&PolicyRow::User(User {

@@ -101,7 +101,7 @@ pub const OF_LISTING: Question = Question {
 /// Each of them.
 pub const QUESTIONS: [Question; 4] = [OF_STATEMENT, OF_ACCOUNTS, OF_PROOF, OF_LISTING];
 
-/// The first so many lines of a text.
+/// The first `count` lines of a text.
 pub fn first_lines(text: &[u8], count: u64) -> &[u8] {
     let mut left = count;
     for (place, byte) in text.iter().enumerate() {

@@ -5,7 +5,7 @@ use counter_ops::{Balance, Correct, DrawerOn, MoveCash, Post, Transfer};
 use decide::Op;
 use std::process::Abort;
 
-/// A post of so many cents.
+/// A post of `added` cents.
 pub(crate) fn post(rt: &impl Abort, account: u32, teller: u32, branch: u32, added: i64) -> Op {
     Op::Post(Post {
         account,

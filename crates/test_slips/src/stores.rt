@@ -32,7 +32,7 @@ fn slips_of_tess(rt: &impl Runtime, count: u32) -> Vec<Slip> {
     slips
 }
 
-/// The sample bank, where Tess has so many slips.
+/// The sample bank, with n slips of Tess.
 fn sample_with_slips(rt: &impl Runtime, slips: u32) -> World {
     let alloc = rt.alloc();
     let sample = sample_world(alloc).expect(rt, "memory");
@@ -69,7 +69,7 @@ fn in_tables(rt: &impl Runtime, slips: u32) -> SqlStore<MemStore> {
     }
 }
 
-/// Asks that no bank is made where Tess has so many slips, as books out of range.
+/// Asks that no bank is made if Tess has n slips, as books out of range.
 pub(crate) fn is_out_of_range(rt: &impl Runtime, slips: u32) {
     match made_with(rt, slips) {
         Ok(_) => panic!(rt; "{slips} slips"),
@@ -90,7 +90,7 @@ fn over<S: Store + Drop>(rt: &impl Runtime, store: S, exchanges: &[Exchange]) {
     }
 }
 
-/// Has the exchanges made with the sample in each store, one after another, where Tess has so many slips.
+/// Has the exchanges made with the sample in each store, one after another, with n slips of Tess.
 pub(crate) fn over_each(rt: &impl Runtime, slips: u32, exchanges: &[Exchange]) {
     over(rt, in_lists(rt, slips), exchanges);
     over(rt, with_cache(rt, in_lists(rt, slips)), exchanges);

@@ -175,7 +175,7 @@ fn a_stopped_write_of_parts_is_counted(rt: HostRuntime) {
     }
 }
 
-/// A write of which no byte is taken, after which so many failures are counted.
+/// A write of which no byte is taken, after which `failures` failures are counted.
 fn takes_none(rt: &impl Abort, writer: &mut Tallied<Halting>, bytes: &[u8], failures: u64) {
     assert!(rt; writer.write(bytes).ok() == Some(0));
     assert!(rt; writer.failures() == failures);
@@ -192,7 +192,7 @@ fn each_failed_call_of_a_writer_is_counted(rt: HostRuntime) {
     assert!(rt; writer.failures() == 2);
 }
 
-/// A read of so many bytes, or of none where it fails, after which so many failures are counted.
+/// A read of `count` bytes, or of none if it fails, after which `failures` failures are counted.
 fn gives(rt: &impl Abort, reader: &mut Tallied<Hiccup>, count: Option<usize>, failures: u64) {
     assert!(rt; reader.read(&mut [0]).ok() == count);
     assert!(rt; reader.failures() == failures);
