@@ -13,7 +13,7 @@ crate, as `bank_meaning/Laws, Sums`. A name with a `*` is a pattern: it means wh
 such a name, and is in no other row by its own name. Lines are those of the definitions alone, without imports and comments; so a
 definition more, or a longer one, is seen.
 
-docs/DEFINITIONS.txt has a line for each: the sum of its text, its name and the question that docs/AUDIT.md has for it, if any.
+docs/DEFINITIONS.txt has a line for each: the sum of its text, its name and the question that docs/AUDIT.md has for it.
 The sum is of its text and of where the names in it come from, and not of its layout or comments. So whoever changes one has to
 write its sum anew, and a reviewer sees its line, with the question, among the changes of docs/.
 
@@ -28,7 +28,7 @@ import os
 import re
 
 from checks import Report, reader
-from repository import TOP
+from repository import TOP, dependencies
 
 PAGE = os.path.join(TOP, "docs", "READING.md")
 CLAIMS = os.path.join(TOP, "docs", "PROVED.md")
@@ -159,18 +159,33 @@ def sum_of(lines, words):
     return hashlib.sha256("\n".join([text, *meant]).encode()).hexdigest()[:10]
 
 
+def homes(cell):
+    """The crate and the module of each file that a cell names, as `money/specs/Cents.antt, Tallied.antt`, or of each crate, as
+    `money, keyed_rows`."""
+    crate = None
+    for name in cell.split(", "):
+        file = re.fullmatch(r"(?:(\w+)/specs/)?([\w*]+)\.antt", name)
+        if file:
+            crate = file[1] or crate
+            yield crate, file[2]
+        elif name in dependencies():
+            yield name, "*"
+
+
 def asked_lines():
     """Each question that docs/AUDIT.md has, with the crate, file and name of whom it is asked, each of which may have a `*`."""
     for line in text_of(AUDIT).split("\n"):
-        cells = [cell.strip() for cell in line.strip().strip("|").split(" | ")]
-        home = re.fullmatch(r"(\w+)/specs/([\w*]+\.antt(?:, [\w*]+\.antt)*)", cells[1]) if line.startswith("| `") and len(cells) == 3 else None
-        for module in home[2].replace(".antt", "").split(", ") if home else []:
-            yield from (((home[1], module, name), cells[2]) for name in re.findall(r"`([^`]+)`", cells[0]))
+        cells = line.strip("|").split("|") if line.startswith("|") else []
+        match [it.strip() for it in cells]:
+            case [names, files, question]:
+                yield from (((*home, name), question) for home in homes(files) for name in re.findall(r"`([^`]+)`", names))
+            case [crates, question]:
+                yield from (((*home, "*"), question) for home in homes(crates))
 
 
 def questions(texts):
-    """The question for each definition: that of its own name, or else of a `*`."""
-    asked = sorted(asked_lines(), key=lambda line: "*" not in "".join(line[0]))
+    """The question for each definition: that of its own name, or else of the longest pattern."""
+    asked = sorted(asked_lines(), key=lambda line: ("*" not in line[0][2], len(line[0][2]), "*" not in line[0][1]))
     return {key: question for pattern, question in asked for key in texts if all(map(fnmatch.fnmatchcase, key, pattern))}
 
 
