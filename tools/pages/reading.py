@@ -18,8 +18,8 @@ The sum is of its text and of where the names in it come from, and not of its la
 write its sum anew, and a reviewer sees its line, with the question, among the changes of docs/.
 
 The last line is '1 passed, 0 failed' where both are right; otherwise it counts what is wrong, and the exit status is 1: a
-definition is missing or has changed, the page has another number of lines, or names what is not there; or docs/PROVED.md names a
-law that no crate has.
+definition is missing, has changed, or has no question, the page has another number of lines, or names what is not there; or
+docs/PROVED.md names a law that no crate has.
 """
 import fnmatch
 import glob
@@ -327,4 +327,5 @@ def main():
     print(f"reading: the headline rests on {len(found)} definitions, {sum(len(texts[key]) for key in found)} lines")
     kept = text_of(SUMS).split("\n")[:-1] if os.path.exists(SUMS) else []
     faults = Page(texts, found).faults() + list(changed(kept, sums))
+    faults += ["docs/AUDIT.md has no question for {2} in crates/{0}/specs/{1}".format(*key) for key in sorted(found - questions(texts).keys())]
     return Report().add_all([("reading", it) for it in faults or [None]])
