@@ -70,7 +70,7 @@ fn sums<'a>(alloc: Global) -> Arg<'a>
     ensures local { result.global ≡ false }
 {
     flag(alloc, "sums").help(
-        "Ends each page of the new file in a sum of its bytes, by which damage shows",
+        "Ends each page of the new file with a sum of its bytes, by which damage shows",
     )
 }
 
@@ -112,9 +112,7 @@ fn socket_if_given<'a>(alloc: Global) -> Arg<'a>
     Arg::new(alloc, "socket")
         .long("socket")
         .value_name("PATH")
-        .help(
-            "Waits for connections at a Unix socket that is made at PATH, and taken away at the end",
-        )
+        .help("Waits for connections at a Unix socket, made at PATH and removed at the end")
 }
 
 /// An option with no value, which is set or not.
@@ -131,7 +129,7 @@ fn inherited<'a>(alloc: Global) -> Arg<'a>
     ensures local { result.global ≡ false }
 {
     flag(alloc, "inherited").help(
-        "Waits for connections at the listening socket that is handed over as descriptor 3 (LISTEN_FDS, LISTEN_PID)",
+        "Waits for connections at the listening socket handed over as descriptor 3 (LISTEN_FDS, LISTEN_PID)",
     )
 }
 
@@ -151,7 +149,7 @@ fn requests<'a>(alloc: Global) -> Arg<'a>
     ensures local { result.global ≡ false }
 {
     number(alloc, "requests", "N", 1, MAX_REQUESTS).help(
-        "How many messages are served, from 1 to 1000000; a connection counts at least one",
+        "How many messages are served, from 1 to 1000000; a connection is one at least",
     )
 }
 
@@ -176,7 +174,7 @@ fn init_command<'a>(alloc: Global) -> Result<Command<'a>, AllocError>
     );
     Command::new(alloc, "init")
         .about(
-            "Makes the bank of FILE from the opening lists in DIR, where its books hold and its policy is sound",
+            "Makes a bank in FILE from the opening lists in DIR, if its books hold and its policy is sound",
         )
         .arg(file)?
         .arg(dir)?
@@ -188,7 +186,7 @@ fn check_command<'a>(alloc: Global) -> Result<Command<'a>, AllocError>
     ensures local { IfOk result (λ c. (fields_of c).has_globals ≡ false) }
 {
     Command::new(alloc, "check")
-        .about("Says whether FILE is a bank whose books hold and whose policy is sound")
+        .about("Checks that FILE is a bank whose books hold and whose policy is sound")
         .arg(bank_file(alloc))
 }
 
@@ -201,7 +199,7 @@ fn upgrade_command<'a>(alloc: Global) -> Result<Command<'a>, AllocError>
     );
     Command::new(alloc, "upgrade")
         .about(
-            "Carries the bank of FILE over to this version, where its books hold and its policy is sound",
+            "Migrates the bank in FILE to this schema version, if its books hold and its policy is sound",
         )
         .arg(file)
 }
@@ -214,9 +212,7 @@ fn forward_command<'a>(alloc: Global) -> Result<Command<'a>, AllocError>
         "The file to make, which is not there or holds no table",
     );
     Command::new(alloc, "forward")
-        .about(
-            "Makes the bank of NEW, which begins the next year of the bank of FILE, where every day is closed",
-        )
+        .about("Makes in NEW the next year's bank of the one in FILE, if every day is closed")
         .arg(bank_file(alloc))?
         .arg(new)?
         .arg(sums(alloc))
@@ -227,7 +223,7 @@ fn run_command<'a>(alloc: Global) -> Result<Command<'a>, AllocError>
     ensures local { IfOk result (λ c. (fields_of c).has_globals ≡ false) }
 {
     Command::new(alloc, "run")
-        .about("Serves standard input to standard output over the bank of FILE")
+        .about("Serves standard input to standard output over the bank in FILE")
         .arg(bank_file(alloc))?
         .arg(badges(alloc))?
         .arg(moment(alloc))
@@ -239,7 +235,7 @@ fn serve_command<'a>(alloc: Global) -> Result<Command<'a>, AllocError>
 {
     Command::new(alloc, "serve")
         .about(
-            "Serves connections at a port of this machine over the bank of FILE, one after another",
+            "Serves connections at a port of this machine, one after another, over the bank in FILE",
         )
         .arg(bank_file(alloc))?
         .arg(badges(alloc))?
@@ -264,7 +260,7 @@ fn counter_command<'a>(alloc: Global) -> Result<Command<'a>, AllocError>
 {
     let command = Command::new(alloc, "counter")
         .about(
-            "Serves many connections at once over the bank of FILE, at exactly one of --port, --socket and --inherited",
+            "Serves many connections at once over the bank in FILE, at exactly one of --port, --socket and --inherited",
         )
         .arg(bank_file(alloc))?
         .arg(badges(alloc))?;
