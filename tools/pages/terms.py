@@ -64,7 +64,7 @@ QUOTED = re.compile(r"`[^`\n]*`|\b[a-z_]+/[\w/.]+(?:, [A-Z]\w+)*")
 COMMENT = re.compile(r"^\s*(?://[/!]?|--) ?(.*)$")
 # What is no code in a line of a crate, and the marks of a mutant's lines of code.
 NO_CODE = re.compile(r'"(?:[^"\\]|\\.)*"|//.*|(?:^|(?<=\s))--.*')
-OF_MUTANT = re.compile(r"^(old|new|refused (at|by)): ")
+OF_MUTANT = re.compile(r"^(old|new|# refused (at|by)): ")
 NAME = re.compile(r"[A-Za-z_][A-Za-z0-9_]*")
 WORD = re.compile(r"[A-Z]?[a-z]+|[A-Z]+(?![a-z])")
 

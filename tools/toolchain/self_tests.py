@@ -6,8 +6,8 @@ and tools/toolchain/families make an unproved program; which changes of a defini
 model over kept sums (tools/simulation/ledger.py) answers as the one that adds up; what tools/benchmarks/instructions says of two
 tables; what is done at a port that is taken (tools/serving.py); what tools/toolchain/families says of outcomes, and how a program can
 be two mutants (tools/toolchain/switches.py); whether tools/toolchain/mutants tries again what a change concerns
-(tools/toolchain/kept_trials.py); that each path which a tool names is there (tools/toolchain/named_paths.py); and that a retired word
-in a name of a crate is seen (tools/pages/terms).
+(tools/toolchain/kept_trials.py), and can read all mutants; that each path which a tool names is there
+(tools/toolchain/named_paths.py); and that a retired word in a name of a crate is seen (tools/pages/terms).
 
     tools/toolchain/self-tests
 
@@ -543,6 +543,18 @@ def require_retired_names():
         require([it[:2] for it in TERMS.faults_of_names(path, text)], wanted, f"retired names in {text!r}")
 
 
+def require_mutants_read(room):
+    """Each mutant has only lines that rt reads or passes over, and one goal at most; one that has more is not read."""
+    tried = os.path.join(room, "tried.edit")
+    for text in ("refused at: returns", "# refused at: returns\n# refused at: call", "old: 1\nnew: 2"):
+        with open(tried, "w", encoding="utf-8") as file:
+            file.write(text)
+        with contextlib.suppress(ValueError):
+            raise Wrong(f"{text!r} was read as {MUTANTS.read_mutant(tried)}")
+    for file in glob.glob(os.path.join(TOP, "crates", "*", "must-fail", "*.edit")):
+        MUTANTS.read_mutant(file)
+
+
 def checks_of(room):
     """All that is tried."""
     kinds = {"text": TEXTS, "build": BUILDS, "clause": CLAUSES, "sum": SUMS, "said": SAID, "count": COUNTS, "time": TIMES}
@@ -566,6 +578,7 @@ def checks_of(room):
     yield Check("port_that_is_taken", require_another_port)
     yield Check("members_of_the_bank", require_members_of_the_bank)
     yield Check("retired_names", require_retired_names)
+    yield Check("mutants_are_read", partial(require_mutants_read, room))
     yield Check("quick_names_what_it_leaves_out", require_all_parts_named)
     yield Check("first_look_is_compiled_anew", partial(require_compiled_anew, room))
     yield from kept_trials.checks_of(MUTANTS.is_drawn, room)
