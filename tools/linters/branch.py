@@ -1,4 +1,5 @@
 """What a branch is run with: the front's settings, by nginx itself, and the units, by systemd's tools."""
+import glob
 import os
 import re
 import shutil
@@ -66,13 +67,33 @@ def verify(top: str) -> list[str]:
     return [it for it in lines if not is_brought(top, it)]
 
 
+def install_units(top: str, root: str) -> None:
+    """Copies all units and their drop-ins to where a system that begins at the root has its own."""
+    for path in all_files(top):
+        folder, name = os.path.split(path)
+        is_drop_in = folder.endswith(".service.d")
+        if is_drop_in or name.endswith(UNITS):
+            target = os.path.join(root, "etc/systemd/system", os.path.basename(folder) if is_drop_in else "", name)
+            os.makedirs(os.path.dirname(target), exist_ok=True)
+            shutil.copy(os.path.join(top, path), target, follow_symlinks=False)
+
+
+def security_tables(root: str) -> dict[str, list[str]]:
+    """systemd's own measure of each service of a system that begins at the root: a line for each right, and the exposure."""
+    words = ["systemd-analyze", "security", "--offline=true", "--no-pager", f"--root={root}"]
+    names = [os.path.basename(it) for it in glob.glob(os.path.join(root, "*/systemd/system/*.service"))]
+    return {it: output_of([*words, it], root)[1] for it in sorted(names)}
+
+
 def exposure(top: str) -> list[str]:
-    """The services that are more exposed than they may be, by systemd's own measure."""
+    """The services that, with their drop-ins, are more exposed than they may be."""
+    with tempfile.TemporaryDirectory(prefix="bank-units-") as root:
+        install_units(top, root)
+        tables = security_tables(root)
     found = []
-    for path in ending_in(top, ".service"):
-        _, lines = output_of(["systemd-analyze", "security", "--offline=true", "--no-pager", path], top)
+    for name, lines in tables.items():
         level = EXPOSURE.search(lines[-1]) if lines else None
-        most = EXPOSURES.get(os.path.basename(path), MOST_EXPOSED)
+        most = EXPOSURES.get(name, MOST_EXPOSED)
         if not level or float(level[2]) > most:
-            found.append(f"{path}: the exposure is {level[2] if level else 'not reported'}, at most {most} may be")
+            found.append(f"{name}: the exposure is {level[2] if level else 'not reported'}, at most {most} may be")
     return found

@@ -41,6 +41,7 @@ LINTERS = (
 )
 SCRIPT = "desk/page/js/planted.js"
 SERVICE = "branch/units/planted.service"
+NEEDS_DROP_IN = "office/units/bank-office-runs.service"
 MYPY, MODEL = ("tools/mypy.ini",), ("tools/mypy.ini", "tools/model/__init__.py")
 ESLINT, TSC = ("desk/.eslintrc.json",), ("desk/tsconfig.json", "desk/shapes.d.ts")
 FRONT = ("branch/front", "branch/certificates")
@@ -82,6 +83,7 @@ PLANTS = (
         *("systemd-analyze security", "a service with all rights", SERVICE, "[Service]\nExecStart=/bin/true\n"),
         "the exposure is 9",
     ),
+    Plant("systemd-analyze security", "a service without its drop-in", NEEDS_DROP_IN, "", "the exposure is", (NEEDS_DROP_IN,)),
 )
 
 
