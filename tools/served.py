@@ -40,11 +40,6 @@ class Served:
         """The most memory that the program ever held at once, in kilobytes."""
         return most_held(self.run)
 
-    def worked(self):
-        """How long the processor has worked for the program, in nanoseconds."""
-        with open(f"/proc/{self.run.pid}/schedstat", encoding="ascii") as file:
-            return int(file.read().split()[0])
-
 
 def most_held(process):
     """The most memory that a process ever held at once, in kilobytes."""

@@ -10,7 +10,7 @@ one is of the disk of TMPDIR, as it is. A sync over a pair of machines takes the
 import os
 import tempfile
 
-from benchmarks.connections import rate
+from benchmarks.peers import rate
 from checks import Wrong, reader
 from preload import preloaded
 from repository import are_built
@@ -27,7 +27,7 @@ def rates(program: str, sample: str, folder: str, clients: tuple[int, ...], post
     for count in clients:
         copy_bank(sample, os.path.join(folder, "bank"))
         with Counter(program, os.path.join(folder, "bank"), env=env) as serving:
-            found.append(float(rate(serving.port, count, posts)))
+            found.append(rate(serving.port, count, posts))
             serving.require_done()
     return ", ".join(f"{it:.0f}" for it in found)
 

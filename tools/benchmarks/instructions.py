@@ -26,13 +26,12 @@ from collections.abc import Callable, Iterator
 from typing import NamedTuple
 
 from benchmarks.counting import Count, Counter, counter
-from benchmarks.files import make_lists
 from benchmarks.peers import lacks_sqlite, peer_of_files
 from benchmarks.pieces import counted_serving, filled_message
 from checks import Wrong, reader
 from replies import statuses_in
 from repository import TOP, are_built
-from sample_file import OPENED, copy_bank, ended, make_sample, message, run_arguments
+from sample_file import LISTS, OPENED, copy_bank, ended, make_sample, message, run_arguments
 
 # How many messages come before those that are counted, and how many are counted.
 BEFORE, COUNTED = 10, 200
@@ -145,6 +144,25 @@ MESSAGES = {
     "a transfer": (TRANSFER, 200),
     "a balance": (BALANCE, 200),
 }
+
+
+def write_list(folder: str, name: str, lines: list[str]) -> None:
+    """Writes one list."""
+    with open(os.path.join(folder, name), "w", encoding="utf-8") as file:
+        file.writelines(f"{line}\n" for line in lines)
+
+
+def make_lists(folder: str, accounts: int) -> None:
+    """Writes the lists of a bank whose one branch has n accounts of one cent. Its policy is the sample's, but that Tess may
+    see all accounts."""
+    os.makedirs(folder)
+    for name in os.listdir(LISTS):
+        with open(os.path.join(LISTS, name), encoding="utf-8") as file:
+            write_list(folder, name, file.read().replace("5,account,101,150", "5,account,1,999999").splitlines())
+    write_list(folder, "branches.csv", ["branch,balance,cash", f"1,{accounts},100000"])
+    write_list(folder, "tellers.csv", ["teller,branch,balance", f"11,1,{accounts}", "12,1,0"])
+    rows = [f"{account},1,1,0" for account in range(1, accounts + 1)]
+    write_list(folder, "accounts.csv", ["account,home,balance,floor", *rows])
 
 
 def make_large(program: str, folder: str, sums: bool) -> str:

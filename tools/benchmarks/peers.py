@@ -13,9 +13,12 @@ A line for each round has both rates, their ratio and the machine's load; the la
 skipped, and named. With --only file or connections one peer alone is met.
 """
 import argparse
+import contextlib
 import glob
 import os
+import selectors
 import shutil
+import socket
 import statistics
 import subprocess
 import tempfile
@@ -23,11 +26,10 @@ import time
 from collections.abc import Callable, Iterator
 from typing import Self
 
-from benchmarks.connections import rate
 from checks import Wrong, lacking, reader
 from repository import TOP, are_built
 from sample_file import copy_bank, ended, make_sample, message, run_arguments
-from serving import Counter, free_port
+from serving import Counter, connected, free_port
 
 POST = message("tess", "/do/post", {"account": 101, "branch": 1, "delta": 1, "teller": 11})
 CLIENTS = (1, 6, 50, 500)
@@ -129,13 +131,37 @@ class Postgres:
         return float(found[0])
 
 
+def rate(port: int, clients: int, posts: int) -> float:
+    """Posts per second by n clients at a port, each of which sends its next once the reply before has come."""
+    waiting, sent, done = selectors.DefaultSelector(), clients, 0
+    with contextlib.ExitStack() as open_ones:
+        opened = [open_ones.enter_context(connected(port)) for _ in range(clients)]
+        for each in opened:
+            waiting.register(each, selectors.EVENT_READ)
+        start = time.perf_counter()
+        for each in opened:
+            each.sendall(POST)
+        while done < sent:
+            for key, _ in waiting.select():
+                assert isinstance(key.fileobj, socket.socket)
+                got = key.fileobj.recv(65536)
+                if not got.startswith(b"HTTP/1.1 200 "):
+                    raise Wrong(f"it answered {got[:200]!r}")
+                done += 1
+                if sent < posts:
+                    key.fileobj.sendall(POST)
+                    sent += 1
+        passed = time.perf_counter() - start
+    return done / passed
+
+
 def our_rate(program: str, sample: str, file: str, clients: int, posts: int) -> float:
     """Posts per second by n clients of `counter`."""
     copy_bank(sample, file)
     with Counter(program, file) as serving:
         found = rate(serving.port, clients, posts)
         serving.require_done()
-    return float(found)
+    return found
 
 
 # What is measured of the program and of its peer, by what it is called.
