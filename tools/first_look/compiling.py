@@ -7,12 +7,11 @@ are. The hint for which rt try runs the prover beside it is left out.
 import hashlib
 import os
 import shutil
-import subprocess
 import sys
-import tempfile
 import time
 from collections.abc import Callable
 
+from long_runs import BETWEEN, begun, has_rt, meanwhile, temporary_folder
 from repository import BANK_PROGRAM, TOP, below, copy_crates, kit, dependencies
 from toolchain.kept import sum_of_kit
 
@@ -113,28 +112,41 @@ def keep(made: str, program: str) -> None:
     os.rename(f"{program}.new", program)
 
 
+class Steps:
+    """The steps of a compilation, each known by a file that it leaves. A line says that one is done, or that it goes on."""
+
+    def __init__(self, made: str) -> None:
+        self.left = [(f"{made}.bc", "reading and lowering"), (made, "compiling and linking"), ("", "printing its help")]
+        self.begun = self.said = time.monotonic()
+
+    def say(self) -> None:
+        """Says what is due by now."""
+        now, (file, step) = time.monotonic(), self.left[0]
+        is_done = os.path.exists(file)
+        if is_done or now - self.said >= BETWEEN:
+            say(f"{now - self.begun:4.0f} seconds: {step}{' is done' * is_done}")
+            self.said = now
+        del self.left[:is_done]
+
+
 def compile_copy(copy: str, room: str, kind: str) -> str | None:
     """Compiles the program of a copy of its crates, with what that takes in a folder beside it, and returns its path; none if it does
     not compile. Then the compiler's last lines are printed."""
     made = os.path.join(room, "made")
     rt = toolchain_that_keeps(os.path.join(room, "kit"), made, REPLACED, kind)
-    ran = subprocess.run(
-        [rt, "try", "--seconds", str(SECONDS), "--", "--help"],
-        cwd=os.path.join(copy, "crates", BANK_PROGRAM),
-        stdin=subprocess.DEVNULL,
-        stdout=subprocess.PIPE,
-        stderr=subprocess.STDOUT,
-        check=False,
-    )
+    words = [rt, "try", "--seconds", str(SECONDS), "--", "--help"]
+    with meanwhile(Steps(made).say, 1), begun(words, room, cwd=os.path.join(copy, "crates", BANK_PROGRAM)) as ran:
+        assert ran.stdout
+        said = ran.stdout.read()
     if ran.returncode or not os.path.isfile(made):
-        say(f"the program does not compile:\n{ran.stdout.decode(errors='replace')[-4000:]}")
+        say(f"the program does not compile:\n{said.decode(errors='replace')[-4000:]}")
         return None
     return made
 
 
 def compile_to(program: str, kind: str, prepare: Callable[[str], None] = lambda copy: None) -> bool:
     """Compiles the program from a copy of its crates that is prepared before, keeps it, and returns whether it compiled."""
-    with tempfile.TemporaryDirectory(prefix="tespiorvu-try-") as room:
+    with temporary_folder("tespiorvu-try-") as room:
         copy = os.path.join(room, "copy")
         copy_crates(copy, below(dependencies(), [BANK_PROGRAM]))
         prepare(copy)
@@ -146,15 +158,10 @@ def compile_to(program: str, kind: str, prepare: Callable[[str], None] = lambda 
 
 def compiled(kind: str = FIRST) -> str | None:
     """The path of the program of this kind, compiled first if a source has changed; none if it does not compile."""
-    if not shutil.which("rt"):
-        say("there is no rt: the toolchain's bin/ has to be on the path (README.md)")
+    if not has_rt():
         return None
     program = os.path.join(OUT, kind, checksum())
     if os.path.isfile(program):
         return program
-    say("compiling, once: three minutes on a quiet machine, up to eighteen on a busy one; it takes 3 GB of memory")
-    begun = time.monotonic()
-    if not compile_to(program, kind):
-        return None
-    say(f"compiled in {time.monotonic() - begun:.0f} seconds")
-    return program
+    say("compiling, once: some four minutes of the processor, more by the clock on a busy machine, and 3 GB of memory")
+    return program if compile_to(program, kind) else None

@@ -6,8 +6,9 @@ and tools/toolchain/families make an unproved program; which changes of a defini
 model over kept sums (tools/simulation/ledger.py) answers as the one that adds up; what tools/benchmarks/instructions says of two
 tables; what is done at a port that is taken (tools/serving.py); what tools/toolchain/families says of outcomes, and how a program can
 be two mutants (tools/toolchain/switches.py); whether tools/toolchain/mutants tries again what a change concerns
-(tools/toolchain/kept_trials.py), and can read all mutants; that each path which a tool names is there
-(tools/toolchain/named_paths.py); and that a retired word in a name of a crate is seen (tools/pages/terms).
+(tools/toolchain/kept_trials.py), and can read all mutants; how tools/try, tools/build and tools/bank end
+(tools/toolchain/ended_commands.py); that each path which a tool names is there (tools/toolchain/named_paths.py); and that a retired word
+in a name of a crate is seen (tools/pages/terms).
 
     tools/toolchain/self-tests
 
@@ -45,7 +46,7 @@ from simulation.drawing import Drawing
 from simulation.ledger import MEMBERS
 from simulation.opening import FIRST_MOMENT, opening_of
 from simulation.table_rows import rows_of_bank
-from toolchain import kept_trials, named_paths
+from toolchain import ended_commands, kept_trials, named_paths
 from toolchain.chain import ends, longest_chain, minutes_left, minutes_of
 from toolchain.families import lines_of
 from toolchain.rattle_source import promised
@@ -582,6 +583,7 @@ def checks_of(room):
     yield Check("quick_names_what_it_leaves_out", require_all_parts_named)
     yield Check("first_look_is_compiled_anew", partial(require_compiled_anew, room))
     yield from kept_trials.checks_of(MUTANTS.is_drawn, room)
+    yield from ended_commands.checks_of(room)
     yield from named_paths.checks_of()
     for name, text, wanted in ROWS_TO_RUN:
         yield Check(name, partial(run_last, text, wanted))
