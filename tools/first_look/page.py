@@ -11,20 +11,29 @@ import tempfile
 import threading
 
 from repository import TOP
+from serving import HOST, is_free
 
-FIRST_PORT = 8480
+# The first port that is tried, if no other is given, and the last that any process can have.
+FIRST_PORT, LAST_PORT = 8480, 65_535
 SAMPLE, PAGE = os.path.join(TOP, "sample"), os.path.join(TOP, "desk", "page")
 BADGES = os.path.join(SAMPLE, "badges.csv")
 # The paths that the front passes on to the bank, and the fields beside the badge.
 OF_THE_BANK = re.compile(r"/(session|end|policy|(do|policy)/[a-z-]+)")
 FIELDS = ("Bank-Session", "Bank-Slip", "Bank-Release")
-MOST_BYTES = 1024
+MOST_BYTES, JSON = 1024, "application/json"
+# What to type first. (desk/test does what it says.)
+FIRST_STEPS = """
+At the page of tess sign in with branch 1 and drawer 11. Put the drawer on first, with a count such as 400.00: no drawer of this
+bank is on yet, while `tools/try sample` begins with the drawers 11 and 12 on. Then post to account 101. Ctrl-C ends the bank.
+"""
 
 
 class Desk(http.server.SimpleHTTPRequestHandler):
     """The teller's page of one badge, and its way to the bank, as branch/front has it."""
 
     protocol_version = "HTTP/1.1"
+    # A connection ends if what is awaited on it does not come within these seconds.
+    timeout = 20
     extensions_map = {**http.server.SimpleHTTPRequestHandler.extensions_map, ".js": "text/javascript", ".svg": "image/svg+xml"}
 
     def __init__(self, *given, badge: str, bank: str, **how):
@@ -38,19 +47,19 @@ class Desk(http.server.SimpleHTTPRequestHandler):
         self.send_header("Cache-Control", "no-store")
         super().end_headers()
 
-    def reply(self, status: int, body: bytes) -> None:
-        """Sends a reply in JSON."""
+    def reply(self, status: int, body: bytes, kind: str = JSON) -> None:
+        """Sends a reply, with its Content-Type."""
         self.send_response(status)
-        self.send_header("Content-Type", "application/json")
+        self.send_header("Content-Type", kind)
         self.send_header("Content-Length", str(len(body)))
         self.end_headers()
         self.wfile.write(body)
 
     def is_of_this_page(self) -> bool:
         """Whether the request is of this port's own page, or of no browser."""
-        host = f"127.0.0.1:{self.connection.getsockname()[1]}"
+        host, port = self.headers["Host"], self.connection.getsockname()[1]
         return (
-            self.headers["Host"] == host
+            host in (f"{HOST}:{port}", f"localhost:{port}")
             and self.headers["Origin"] in (None, f"http://{host}")
             and self.headers["Sec-Fetch-Site"] in (None, "none", "same-origin")
         )
@@ -87,29 +96,29 @@ class Desk(http.server.SimpleHTTPRequestHandler):
         except (OSError, http.client.HTTPException):
             return self.reply(502, b'{"front":"no reply"}')
 
-    def replied(self, body: bytes, fields: dict[str, str]) -> tuple[int, bytes]:
-        """What the bank replies."""
+    def replied(self, body: bytes, fields: dict[str, str]) -> tuple[int, bytes, str]:
+        """The status of the bank's reply, its body, and its Content-Type."""
         with contextlib.closing(http.client.HTTPConnection("bank")) as asked:
             asked.sock = socket.socket(socket.AF_UNIX)
             asked.sock.connect(self.bank)
             asked.request(self.command, self.path, body, fields)
             got = asked.getresponse()
-            return got.status, got.read()
+            return got.status, got.read(), got.getheader("Content-Type", JSON)
 
 
-def open_desks(bank: str) -> list[http.server.ThreadingHTTPServer]:
-    """Opens a port for each badge of the sample, and prints the address of each page."""
+def open_desks(bank: str, first_port: int) -> list[http.server.ThreadingHTTPServer]:
+    """Opens a port for each badge of the sample, from the first on that nobody has, and prints the address of each page."""
     with open(BADGES, encoding="utf-8") as file:
         badges = [line.partition(",")[0] for line in file.read().splitlines()[1:]]
     desks = []
-    for port, badge in enumerate(badges, FIRST_PORT):
+    for badge, port in zip(badges, filter(is_free, range(first_port, LAST_PORT + 1))):
         how = functools.partial(Desk, badge=badge, bank=bank, directory=PAGE)
-        desks.append(http.server.ThreadingHTTPServer(("127.0.0.1", port), how))
-        print(f"http://127.0.0.1:{port}/ {badge}", flush=True)
+        desks.append(http.server.ThreadingHTTPServer((HOST, port), how))
+        print(f"http://{HOST}:{port}/ {badge}", flush=True)
     return desks
 
 
-def serve_page(program: str) -> int:
+def serve_page(program: str, first_port: int) -> int:
     """Serves the page over a new sample bank, until this process is ended, and returns the program's exit status if it ends."""
     with tempfile.TemporaryDirectory(prefix="tespiorvu-page-") as room:
         bank, place = os.path.join(room, "bank"), os.path.join(room, "socket")
@@ -122,8 +131,9 @@ def serve_page(program: str) -> int:
             assert served.stdin and served.stdout
             try:
                 if served.stdout.readline():
-                    for desk in open_desks(place):
+                    for desk in open_desks(place, first_port):
                         threading.Thread(target=desk.serve_forever, daemon=True).start()
+                    print(FIRST_STEPS, end="", flush=True)
                     served.wait()
             finally:
                 served.stdin.close()
