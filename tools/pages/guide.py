@@ -35,10 +35,9 @@ found.close()
 """
 
 
-def blocks():
-    """The blocks of lines of the guide, each with what has to be written."""
-    with open(GUIDE, encoding="utf-8") as file:
-        found = BLOCK.findall(file.read())
+def blocks_in(page):
+    """The blocks of lines of a page, each with what has to be written."""
+    found = BLOCK.findall(page)
     due = [text if not kind else "" for kind, text in found[1:]] + [""]
     return [(text, wanted) for (kind, text), wanted in zip(found, due) if kind == "sh"]
 
@@ -118,7 +117,8 @@ def difference(wrote, wanted):
 
 def main():
     program = reader(__doc__, has_checks=False).parse_args().program
-    known = blocks()
+    with open(GUIDE, encoding="utf-8") as file:
+        known = blocks_in(file.read())
     lacks = missing(program)
     if lacks or not known:
         return refuse(lacks or "no lines")
