@@ -23,6 +23,8 @@ from repository import TOP
 
 PAGE = os.path.join("docs", "ADDING.md")
 CASE = re.compile(r"(rows/\S+):\n\n```\n(.*?)```", re.S)
+# What begins the last line of a check that proved its crate.
+PROVED_LINE = "logic=proved"
 # To compile the program takes minutes, and to prove it an hour.
 NEED_PROGRAM = ("tools/try", "cases/run", "model/streams", "pages/openapi", "pages/guide", "desk/test")
 # What reads sources and pages alone.
@@ -72,6 +74,9 @@ def faults_of(copy: str, lines: list[str], wanted: list[str]) -> Iterator[str]:
             after = texts_named(copy, line)
             yield from (f"{line}: {path} stays as it was" for path, text in before.items() if text == after[path])
     yield from (f"it does not print {it!r}: {written[-400:]}" for it in wanted if it not in written)
+    last = written.rstrip().rpartition("\n")[2]
+    if PROVED_LINE in wanted and not last.startswith(PROVED_LINE):
+        yield f"{PROVED_LINE!r} does not begin the last line: {last}"
 
 
 def carried_out(copy: str, section: str) -> Iterator[tuple[str, str | None]]:
