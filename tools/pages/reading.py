@@ -1,34 +1,37 @@
-"""Compares docs/READING.md and docs/DEFINITIONS.txt with the definitions that the headline rests on.
+"""Compares docs/READING.md and docs/DEFINITIONS.txt with the definitions that the headline rests on, and with the laws.
 
     tools/pages/reading                     checks that the page names each of them, how many lines they are, and that none has changed
     tools/pages/reading --list              prints them, crate by crate and file by file, with their lines
     tools/pages/reading --others [CRATE ..] prints all other definitions, of these crates or of all, with the comment above each
-    tools/pages/reading --update            puts the numbers of lines on the page right, writes the sums, and checks both
+    tools/pages/reading --update            puts the numbers of lines right, prints what has changed, and writes the sums
 
 A definition is what a file of a crate's specs/ declares. The headline rests on those that the clauses of `serve` name and those
-that the laws name which docs/PROVED.md names (the functions of the modules in LAWS, as `laws::sums`); on those that these name,
+that the laws name which docs/PROVED.md names (functions of a crate's src/laws.rt, as `laws::sums`); on those that these name,
 and so on. What the toolchain's libraries define is not counted, nor what a file of src/ declares. The page names a definition
 where a row of a table has it in backticks, beside its crate and file, as `bank_meaning/Laws`, or beside several files of one
 crate, as `bank_meaning/Laws, Sums`. A name with a `*` is a pattern: it means what the headline rests on in these files, has
 such a name, and is in no other row by its own name. Lines are those of the definitions alone, without imports and comments; so a
 definition more, or a longer one, is seen.
 
-docs/DEFINITIONS.txt has a line for each: the sum of its text, its name and the question that docs/AUDIT.md has for it.
-The sum is of its text and of where the names in it come from, and not of its layout or comments. So whoever changes one has to
-write its sum anew, and a reviewer sees its line, with the question, among the changes of docs/.
+docs/DEFINITIONS.txt has a line for each file of these definitions, and for each file of laws that docs/PROVED.md names: the
+sum of their texts and of where the names in these come from, and not of layout, comments or order. The text of a law ends at
+its body. So whoever changes one writes the sum of its file anew. The line also has the first characters of each one's own sum,
+in the order of their names; by these the check names what has changed, and asks its question of docs/AUDIT.md.
 
-The last line is '1 passed, 0 failed' where both are right; otherwise it counts what is wrong, and the exit status is 1: a
-definition is missing, has changed, or has no question, the page has another number of lines, or names what is not there; or
-docs/PROVED.md names a law that no crate has.
+The last line is '1 passed, 0 failed' where all is right; otherwise it counts what is wrong, and the exit status is 1: one has
+changed, or has no question; a definition is not on the page, or the page has another number of lines, or names what is not
+there; docs/PROVED.md names a law that no crate has, or one without `laws::`.
 """
 import fnmatch
 import glob
 import hashlib
 import os
 import re
+from difflib import SequenceMatcher
 
 from checks import Report, reader
 from repository import TOP, dependencies
+from toolchain.rattle_source import functions
 
 PAGE = os.path.join(TOP, "docs", "READING.md")
 CLAIMS = os.path.join(TOP, "docs", "PROVED.md")
@@ -45,8 +48,16 @@ CALLS = [os.path.join(TOP, "crates", *it) for it in (
     ("counter_api", "src", "service.rt"),
 )]
 DECLARED = re.compile(r"^(?:  )?(?:abbrev pub|abbrev|unfoldable pub|pub record|record|pub data|data|pub) ([^\s:]+)")
-IMPORT = re.compile(r"^(?:ghost )?use Rattle\.(\w+)\.specs\.([\w.]+)\.\{(.*)\};?$")
-LAW = re.compile(r"^pub fn (\w+)", re.MULTILINE)
+IMPORT = re.compile(r"^(?:ghost )?use Rattle\.(\w+)\.specs\.([\w.]+)(?:\.\{(.*)\}| as (\w+));?$")
+# The file of a crate's laws, as it stands in the file of sums beside those of definitions.
+LAWS = "laws"
+SUMS_HEAD = [
+    "Each file whose definitions docs/PROVED.md rests on, or whose laws it names: their sum, and how each one begins.",
+    "tools/pages/reading names those that change, with what docs/AUDIT.md asks of each; --update writes this.",
+]
+# How many characters of a file's sum are kept, and of each definition's; and a line of both.
+OF_FILE, OF_ONE = 10, 2
+SUM = re.compile(r"(\w+/[\w.]+) [0-9a-f]+ ([0-9a-f]+)")
 
 
 def text_of(path):
@@ -72,7 +83,9 @@ def imports_of(lines):
     words = {}
     for line in lines:
         found = IMPORT.match(line)
-        if found:
+        if found and found[4]:
+            words[found[4]] = (found[1], found[2], "")
+        elif found:
             for item in found[3].split(","):
                 name, _, word = item.strip().partition(" as ")
                 words[word or name] = (found[1], found[2], name)
@@ -121,28 +134,27 @@ def laws_named():
     return set(re.findall(r"`laws::(\w+)`", text_of(CLAIMS)))
 
 
-def laws_files():
-    """The files whose functions are laws."""
-    return sorted(glob.glob(os.path.join(TOP, "crates", "*", "src", "laws.rt")))
+def laws_of(source):
+    """The lines of each law of a file's text, from its name to its body, without comments."""
+    bare = re.sub(r"//[^\n]*", "", source)
+    found = functions(bare, f"src/{LAWS}.rt", {})
+    return {it.name.rpartition("::")[2]: bare[it.head : it.start].split("\n") for it in found}
 
 
-def begun_at(texts):
-    """The definitions that the call's clauses name, and those that the named laws of LAWS do."""
-    begun, named = [], laws_named()
-    for path in CALLS:
-        begun += imports_of(text_of(path).split("\n")).values()
-    for path in laws_files():
-        source = text_of(path)
-        words = imports_of(source.split("\n"))
-        for part in re.split(r"\n(?=pub fn )", source)[1:]:
-            if LAW.match(part)[1] in named:
-                begun += [key for word, key in words.items() if names(part, word)]
-    return [key for key in begun if key in texts]
+def with_laws(texts, words):
+    """The texts of definitions and laws, by their crates, files and names, and what the names of each file mean."""
+    for path in glob.glob(os.path.join(TOP, "crates", "*", "src", f"{LAWS}.rt")):
+        source, home = text_of(path), (os.path.relpath(path, TOP).split(os.sep)[1], LAWS)
+        words = {**words, home: imports_of(source.split("\n"))}
+        texts = {**texts, **{(*home, name): lines for name, lines in laws_of(source).items()}}
+    return texts, words
 
 
 def rested_on(texts, words):
-    """The definitions that the headline rests on."""
-    waiting, found = begun_at(texts), set()
+    """The laws that the page of claims names, and the definitions that these, and the calls' clauses, rest on."""
+    named, found = laws_named(), set()
+    waiting = [key for key in texts if key[1] == LAWS and key[2] in named]
+    waiting += [key for path in CALLS for key in imports_of(text_of(path).split("\n")).values() if key in texts]
     while waiting:
         key = waiting.pop()
         if key not in found:
@@ -153,18 +165,18 @@ def rested_on(texts, words):
 
 
 def sum_of(lines, words):
-    """The sum of a definition: of its text, and of where the names in it come from."""
+    """The sum of a definition, or of a law: of its text, and of where the names in it come from."""
     text = " ".join(" ".join(lines).split())
     meant = sorted(".".join(key) for word, key in words.items() if names(text, word))
-    return hashlib.sha256("\n".join([text, *meant]).encode()).hexdigest()[:10]
+    return hashlib.sha256("\n".join([text, *meant]).encode()).hexdigest()
 
 
 def homes(cell):
-    """The crate and the module of each file that a cell names, as `money/specs/Cents.antt, Tallied.antt`, or of each crate, as
-    `money, keyed_rows`."""
+    """The crate and the module of each file that a cell names, as `money/specs/Cents.antt, Tallied.antt` or `*/src/laws.rt`, or
+    of each crate, as `money, keyed_rows`."""
     crate = None
     for name in cell.split(", "):
-        file = re.fullmatch(r"(?:(\w+)/specs/)?([\w*]+)\.antt", name)
+        file = re.fullmatch(r"(?:([\w*]+)/(?:specs|src)/)?([\w*]+)\.(?:antt|rt)", name)
         if file:
             crate = file[1] or crate
             yield crate, file[2]
@@ -189,41 +201,48 @@ def questions(texts):
     return {key: question for pattern, question in asked for key in texts if all(map(fnmatch.fnmatchcase, key, pattern))}
 
 
-def sum_lines(texts, words, found):
-    """Each line of the file of sums: the files, and after each its definitions, as they stand there."""
-    asked, home = questions(texts), None
-    yield "The definitions that docs/PROVED.md rests on, file by file: the sum of each, its name, and what docs/AUDIT.md asks of it."
-    yield "tools/pages/reading --update writes this. Of one whose sum changes ask, too: does it still say what its comment says?"
-    for key in (key for key in texts if key in found):
-        if key[:2] != home:
-            home = key[:2]
-            yield ""
-            yield f"{home[0]}/{home[1]}"
-        yield f"  {sum_of(texts[key], words[home])} {key[2]}" + (f": {asked[key]}" if key in asked else "")
+def sums_of(keys, texts, words):
+    """The sum of each of these, by its file and, in their order, its name."""
+    sums = {}
+    for key in sorted(keys):
+        sums.setdefault(key[:2], {})[key[2]] = sum_of(texts[key], words[key[:2]])
+    return sums
 
 
-def named_lines(lines):
-    """The lines of definitions among these, each by its file and its name."""
-    found, home = {}, None
-    for line in lines:
-        if line.startswith("  "):
-            found[home, line.split()[1].rstrip(":")] = line.strip()
-        elif "/" in line and " " not in line:
-            home = line
-    return found
+def sum_lines(sums):
+    """The lines of the file of sums."""
+    yield from SUMS_HEAD
+    for home, of_names in sums.items():
+        total = hashlib.sha256("\n".join(of_names.values()).encode()).hexdigest()[:OF_FILE]
+        yield f"{'/'.join(home)} {total} {''.join(it[:OF_ONE] for it in of_names.values())}"
 
 
-def changed(old, new):
-    """What the file of sums, of these lines, has otherwise than it ought to, a line each."""
-    kept, due = named_lines(old), named_lines(new)
-    for home, name in [*due, *(it for it in kept if it not in due)]:
-        was, now = kept.get((home, name)), due.get((home, name))
-        if was is None or now is None:
-            yield f"docs/DEFINITIONS.txt: {home} has {'a new' if was is None else 'no'} {name}"
-        elif was != now:
-            yield f"docs/DEFINITIONS.txt: {home} has changed: {now.partition(' ')[2]}"
-    if list(old) != list(new) and kept == due:
-        yield "docs/DEFINITIONS.txt has other lines, or another order, than --update writes"
+def changed_in(kept, of_names):
+    """What has changed in a file by the beginnings of sums that are kept of it: each name, or how many are fewer."""
+    was, now = re.findall("." * OF_ONE, kept), [it[:OF_ONE] for it in of_names.values()]
+    alike = SequenceMatcher(None, was, now, autojunk=False).get_matching_blocks()
+    places = {*range(len(now))} - {at for it in alike for at in range(it.b, it.b + it.size)}
+    fewer = [f"{len(was) - len(now)} fewer"] * (len(was) > len(now))
+    return [name for at, name in enumerate(of_names) if at in places] + fewer
+
+
+def changed(lines, sums, asked):
+    """What the file of sums, of these lines, has otherwise than it ought to, a line each, with what is asked of it."""
+    due = list(sum_lines(sums))
+    kept = {found[1]: found for found in map(SUM.fullmatch, lines) if found}
+    faults = [f"has {file}, on which nothing rests" for file in kept if tuple(file.split("/")) not in sums]
+    for (home, of_names), line in zip(sums.items(), due[len(SUMS_HEAD) :]):
+        if line not in lines:
+            file = line.split(" ")[0]
+            names = changed_in(kept[file][2] if file in kept else "", of_names)
+            faults += [f"has another sum of {file}: {it}: {asked.get((*home, it), '')}" for it in names or ["one"]]
+    faults = faults or ["has other lines than --update writes"] * (list(lines) != due)
+    return [f"docs/DEFINITIONS.txt {it}" for it in faults]
+
+
+def kept_lines():
+    """The lines of the file of sums, if it is there."""
+    return text_of(SUMS).splitlines() if os.path.exists(SUMS) else []
 
 
 def page_lines():
@@ -286,8 +305,14 @@ class Page:
                 faults.append(f"{row[0]}, {', '.join(row[2])}: {self.count_of(row)} lines and not {row[3]}")
             covered |= self.all_of(row)
         faults += ["not on the page: {2} in crates/{0}/specs/{1}".format(*key) for key in sorted(self.found - covered)]
-        laws = {it for path in laws_files() for it in LAW.findall(text_of(path))}
-        return faults + [f"docs/PROVED.md names laws::{it}, which is no law" for it in sorted(laws_named() - laws)]
+        return faults
+
+
+def against_claims(known):
+    """What is wrong with the laws that the page of claims names, of those known, a line each."""
+    named, bare = laws_named(), set(re.findall(r"`(\w+)`", text_of(CLAIMS))) & known
+    wrong = [f"laws::{it}, which is no law" for it in sorted(named - known)]
+    return [f"docs/PROVED.md names {it}" for it in wrong + [f"{it}, a law, without laws::" for it in sorted(bare - named)]]
 
 
 def print_list(texts, found):
@@ -299,9 +324,17 @@ def print_list(texts, found):
 
 def print_others(texts, comments, found, crates):
     """Prints all other definitions of these crates, or of all."""
-    for key in texts:
+    for key in comments:
         if key not in found and (not crates or key[0] in crates):
             print(f"{key[0]}/specs/{key[1]}: {key[2]}, {len(texts[key])}: {comments[key]}".rstrip(": "))
+
+
+def update(page, sums, asked):
+    """Puts the page right, prints what has changed, and writes the sums."""
+    page.update()
+    print("\n".join(changed(kept_lines(), sums, asked)) or "docs/DEFINITIONS.txt is as it was")
+    with open(SUMS, "w", encoding="utf-8") as file:
+        file.writelines(f"{line}\n" for line in sum_lines(sums))
 
 
 def main():
@@ -312,6 +345,7 @@ def main():
     what.add_argument("--update", action="store_true", help="put the page right, and write the sums")
     given = parser.parse_args()
     texts, comments, words = declarations()
+    texts, words = with_laws(texts, words)
     found = rested_on(texts, words)
     if given.list:
         print_list(texts, found)
@@ -319,13 +353,11 @@ def main():
     if given.others is not None:
         print_others(texts, comments, found, given.others)
         return 0
-    sums = list(sum_lines(texts, words, found))
+    sums, asked, defined = sums_of(found, texts, words), questions(found), found & comments.keys()
     if given.update:
-        Page(texts, found).update()
-        with open(SUMS, "w", encoding="utf-8") as file:
-            file.write("".join(f"{line}\n" for line in sums))
-    print(f"reading: the headline rests on {len(found)} definitions, {sum(len(texts[key]) for key in found)} lines")
-    kept = text_of(SUMS).split("\n")[:-1] if os.path.exists(SUMS) else []
-    faults = Page(texts, found).faults() + list(changed(kept, sums))
-    faults += ["docs/AUDIT.md has no question for {2} in crates/{0}/specs/{1}".format(*key) for key in sorted(found - questions(texts).keys())]
+        update(Page(texts, defined), sums, asked)
+    print(f"reading: the headline rests on {len(defined)} definitions, {sum(len(texts[key]) for key in defined)} lines")
+    faults = Page(texts, defined).faults() + against_claims({key[2] for key in texts if key[1] == LAWS})
+    faults += changed(kept_lines(), sums, asked)
+    faults += ["docs/AUDIT.md has no question for {2} of {0}/{1}".format(*key) for key in sorted(found - asked.keys())]
     return Report().add_all([("reading", it) for it in faults or [None]])

@@ -236,23 +236,34 @@ def same_sum(lines, meant):
     return READING.sum_of(lines, meant) == READING.sum_of(DEFINED, MEANT)
 
 
-OLD_SUMS = ["The head.", "", "bank/Rows", "  1a is_paid: Is it?", "  2b is_due"]
+LAW_TEXT = "pub fn holds(n: u64) // of any\n    ensures a { n ≡ n }\n    ensures b { IsSo }\n{}\n"
+HELD = ["fn holds(n: u64) ", "    ensures a { n ≡ n }", "    ensures b { IsSo }", ""]
+ROWS = ("bank", "Rows")
+OLD, OTHER = {"is_due": "1a0", "is_paid": "2b0"}, "docs/DEFINITIONS.txt has another sum of bank/Rows: "
+OLD_SUMS = list(READING.sum_lines({ROWS: OLD}))
+
+
+def changed(**sums):
+    """What is said of the file of sums if these are due."""
+    return READING.changed(OLD_SUMS, {ROWS: sums} if sums else {}, {(*ROWS, "is_paid"): "Is it?"})
+
+
 SUMS = [
     (same_sum(["abbrev pub is_paid : Row", "    → Bool", "is_paid r  = r.due == 0"], MEANT), True),
     (same_sum([DEFINED[0], "is_paid r = r.due == 1"], MEANT), False),
     (same_sum(DEFINED, {"Row": ("sql_books", "Rows", "Row")}), False),
     (same_sum(DEFINED, {**MEANT, "Column": ("sql_books", "Rows", "Column")}), True),
-    (list(READING.changed(OLD_SUMS, OLD_SUMS)), []),
-    (
-        list(READING.changed(OLD_SUMS, [*OLD_SUMS[:3], "  1c is_paid: Is it?", "  3d is_over"])),
-        [
-            "docs/DEFINITIONS.txt: bank/Rows has changed: is_paid: Is it?",
-            "docs/DEFINITIONS.txt: bank/Rows has a new is_over",
-            "docs/DEFINITIONS.txt: bank/Rows has no is_due",
-        ],
-    ),
-    (list(READING.changed(OLD_SUMS, OLD_SUMS[1:])), ["docs/DEFINITIONS.txt has other lines, or another order, than --update writes"]),
-]
+    (READING.laws_of(LAW_TEXT), {"holds": HELD}),
+    (READING.sum_of(HELD, {}) == READING.sum_of([it for it in HELD if "b {" not in it], {}), False),
+    (READING.imports_of(["use Rattle.bank.specs.Rows.{Row as R, Due}"]), {"R": (*ROWS, "Row"), "Due": (*ROWS, "Due")}),
+    (READING.imports_of(["ghost use Rattle.bank.specs.declared.Op as op;"]), {"op": ("bank", "declared.Op", "")}),
+    (changed(is_due="1a0", is_paid="2b0"), []),
+    (changed(is_due="1a0", is_over="3d0", is_paid="2c0"), [OTHER + "is_over: ", OTHER + "is_paid: Is it?"]),
+    (changed(is_due="1a0"), [OTHER + "1 fewer: "]),
+    (changed(is_due="1a1", is_paid="2b0"), [OTHER + "one: "]),
+    (changed(), ["docs/DEFINITIONS.txt has bank/Rows, on which nothing rests"]),
+    (READING.changed(["", *OLD_SUMS], {ROWS: OLD}, {}), ["docs/DEFINITIONS.txt has other lines than --update writes"]),
+]  # fmt: skip
 
 # The files that name the folder of the unproved program, or the modules that make it.
 UNPROVED = re.compile(r"first[-_]look")
