@@ -9,11 +9,11 @@ a `>` on its own. The first file of each crate begins with a head, which is its 
 
 A function has a clause where it has a `requires` or an `ensures`, or implements a method of a trait that has one. All others
 but those of tests and benchmarks are printed, and are those that the page lists by crate; so a new function
-without a clause is seen. A type's invariant is no clause. docs/EDGES.txt has the sum of the text of each such function, of each
-that takes the machine, and of each of an impl for a socket (edges.py): a change of one is seen there.
+without a clause is seen. A type's invariant is no clause. docs/EDGES.txt has the sum of the text of each such function, and
+of each at the machine (edges.py): a change of one is seen there.
 
-An impl of the repository's trait that leaves a ghost member at its default is in a second list of the page (defaults.py), as a
-clause by that member may say nothing of it. Each mutant that the page names in square brackets is there.
+An impl that leaves a ghost member of its trait at its default, or empty, is in a second list of the page (defaults.py), as a
+clause by that member says nothing of it. Each mutant that the page names in square brackets is there.
 
 tools/toolchain/crate_minutes.txt has the minutes of each crate but those, of the program, and of no other; tools/build says what
 each crate took. The longest chain of crates, each of which uses the one before it, is printed with its minutes: a build takes
@@ -26,7 +26,7 @@ import os
 import re
 
 from checks import Report, reader
-from pages.defaults import defaults_of, left_at_defaults
+from pages.defaults import OF_STREAMS, ghosts_of, left_at_defaults
 from pages.edges import against_edges, crates_in, edges_of, kept_lines, lines_of, write_edges
 from repository import TOP, source_of, dependencies
 from toolchain.chain import kept_minutes, longest_chain, proved_crates
@@ -38,7 +38,7 @@ CRATES = slice(10, 56)
 LEAST_IN_HEAD, MOST_IN_HEAD = 40, 80
 CLAIMS = os.path.join(TOP, "docs", "PROVED.md")
 CLAIMS_HEADING = "| Crate | Functions without a clause |"
-DEFAULTS_HEADING = "| Crate | Ghost members at their defaults |"
+DEFAULTS_HEADING = "| Crate | Ghost members at their defaults, or empty |"
 MUTANTS = re.compile(r"\[([\w/-]+(?:[,;] [\w/-]+)*)\]$", re.MULTILINE)
 # Methods of the toolchain's traits that have clauses. That of `From` says what the impl does by its `from_gives`.
 PROMISED = {"Read::read", "Write::write", "Write::flush"}
@@ -137,9 +137,9 @@ def against_functions(found, listed):
 
 
 def against_defaults(found, kept):
-    """What is wrong with the ghost members at their defaults that the page lists of a crate."""
-    wrong = [f"{it} is left at its default, and docs/PROVED.md does not list it" for it in found if it not in kept]
-    return wrong + [f"docs/PROVED.md lists {it}, which is not left at its default" for it in kept if it not in found]
+    """What is wrong with the ghost members at their defaults, or empty, that the page lists of a crate."""
+    wrong = [f"docs/PROVED.md does not list {it}, which is at its default or empty" for it in found if it not in kept]
+    return wrong + [f"docs/PROVED.md lists {it}, which says something" for it in kept if it not in found]
 
 
 def mutants_named(text):
@@ -189,7 +189,7 @@ def main():
     uses, (places, twice), minutes = dependencies(), drawn(), kept_minutes()
     proved, functions_of, members_of = proved_crates(uses), listed(CLAIMS_HEADING), listed(DEFAULTS_HEADING)
     texts = {it: texts_of(it) for it in proved}
-    defaults = {name: members for it in proved for name, members in defaults_of(texts[it]).items()}
+    ghosts = {name: found for it in proved for name, found in ghosts_of(texts[it]).items()} | OF_STREAMS
     found = all_without_clause(texts)
     edges = {it: list(edges_of(texts[it], found[it])) for it in proved}
     if given.update:
@@ -199,7 +199,7 @@ def main():
     for it in uses:
         wrong[it] += against_functions(found.get(it, []), functions_of.get(it, [])) + against_minutes(it, minutes, proved)
         wrong[it] += against_edges(edges.get(it, []), kept.get(it, []))
-        wrong[it] += against_defaults(list(left_at_defaults(texts.get(it, {}), defaults)), members_of.get(it, []))
+        wrong[it] += against_defaults(list(left_at_defaults(texts.get(it, {}), ghosts)), members_of.get(it, []))
     others = {*places, *functions_of, *members_of, *minutes, *kept} - {*uses}
     wrong.update((name, ["crates.txt has no such crate"]) for name in sorted(others))
     with open(CLAIMS, encoding="utf-8") as page:

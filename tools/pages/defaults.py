@@ -1,5 +1,5 @@
-"""Finds the impls of the repository's traits that leave ghost members at their defaults. What a clause of the trait says by such a
-member it says of that impl by the default alone, which may be nothing."""
+"""Finds the impls that leave ghost members of their trait at its defaults, or give them nothing, as `⊤`, `None` or `true`. What
+a clause of the trait says by such a member, it may not say of that impl."""
 import re
 from collections.abc import Iterator, Mapping
 
@@ -7,7 +7,10 @@ from toolchain.rattle_source import after_bracket, blanked, module_of, name_of_i
 
 TRAIT = re.compile(r"\btrait\s+(\w+)[^{;]*\{")
 IMPL = re.compile(r"\bimpl\b[^{;]* for [^{;]*\{")
-MEMBER = re.compile(r"\bghost\s+(\w+):.*\}\s*=\s*\{")
+MEMBER = re.compile(r"\bghost\s+(\w+)\s*:")
+EMPTY = r"\s*(?:λ[^.]*\.)?\s*(?:⊤|None|true)\s*"
+# Traits of the toolchain whose clauses speak by such members: what a stream has still to give, and what it took.
+OF_STREAMS = {"Read": ["remaining"], "Write": ["contents"]}
 
 
 def blocks(code: str, head: re.Pattern[str]) -> Iterator[tuple[re.Match[str], str]]:
@@ -16,21 +19,17 @@ def blocks(code: str, head: re.Pattern[str]) -> Iterator[tuple[re.Match[str], st
         yield found, code[found.end() - 1 : after_bracket(code, found.end() - 1)]
 
 
-def defaults_of(texts: Mapping[str, str]) -> dict[str, list[str]]:
-    """The ghost members that have a default, of each trait of these files, by its name."""
-    return {
-        found[1]: MEMBER.findall(block)
-        for text in texts.values()
-        for found, block in blocks(blanked(text), TRAIT)
-        if MEMBER.search(block)
-    }
+def ghosts_of(texts: Mapping[str, str]) -> dict[str, list[str]]:
+    """The ghost members of each trait of these files, by its name."""
+    return {found[1]: MEMBER.findall(block) for text in texts.values() for found, block in blocks(blanked(text), TRAIT)}
 
 
-def left_at_defaults(texts: Mapping[str, str], defaults: Mapping[str, list[str]]) -> Iterator[str]:
-    """The members that impls of these files leave at their defaults, as `readiness::SystemReadiness::shows`."""
+def left_at_defaults(texts: Mapping[str, str], members: Mapping[str, list[str]]) -> Iterator[str]:
+    """The members that impls of these files leave at their defaults or empty, as `readiness::SystemReadiness::shows`."""
     for path, text in texts.items():
         for found, block in blocks(blanked(text), IMPL):
             header = found[0].rstrip("{").strip()
-            for member in defaults.get(trait_of(header), []):
-                if not re.search(rf"\bghost\s+{member}\s*=", block):
+            for member in members.get(trait_of(header), []):
+                given = re.search(rf"\bghost\s+{member}\s*=\s*\{{([^}}]*)\}}", block)
+                if not given or re.fullmatch(EMPTY, given[1]):
                     yield "::".join([*module_of(path), name_of_impl(header), member])

@@ -1,5 +1,6 @@
-"""The sums of the functions at the program's edge, in docs/EDGES.txt: those of which no contract says what they do, those that
-take the machine, and those of an impl for a socket, whose clauses say nothing at that type.
+"""The sums of the functions at the program's edge, in docs/EDGES.txt: those of which no contract says what they do, and those
+at the machine, whose clauses say nothing there. A function is at the machine if its own head or its impl's names it, if its type
+holds it, or if its body calls it.
 
 The sum is of a function's text from its name to its end, without comments and layout. So whoever changes one writes its sum anew,
 and a reviewer sees its line among the changes of docs/.
@@ -7,24 +8,36 @@ and a reviewer sees its line among the changes of docs/.
 import hashlib
 import os
 import re
-from collections.abc import Iterator, Sequence
+from collections.abc import Iterable, Iterator, Sequence
 
+from pages.defaults import blocks
 from repository import TOP
-from toolchain.rattle_source import Function, functions, homes_of
+from toolchain.rattle_source import Function, blanked, functions, homes_of
 
 EDGES = os.path.join(TOP, "docs", "EDGES.txt")
 HEAD = (
     "The functions at the program's edge, by crate: the sum of the text of each, and its name. tools/pages/crates --update writes this.",
-    "Contracts say little of what these read, write and report. Of one whose sum changes ask: what is that now, and which test would see it wrong?",
+    "Contracts say little of what these read, write and report. Of one whose sum changes ask: what is that now, and which test would see it wrong (docs/TESTING.md)?",
 )
-# A parameter, or a bound of a type parameter, by which a function takes the machine: its files, sockets, clock or processes.
-TAKES_MACHINE = re.compile(r"\bHostRuntime\b|\btime::Clock\b|\bRegistry\b")
-OF_SOCKET = re.compile(r"\b(?:TcpStream|UnixStream|TcpListener|UnixListener)\w*::")
+# The machine: its files, sockets, clocks or processes; and a call of it.
+MACHINE = re.compile(
+    r"\b(?:File|HostRuntime|Net|OwnedFd|Poll|Registry|Std(?:err|in|out)|time::Clock|(?:Tcp|Unix)(?:Listener|Stream))\b"
+)
+CALL = re.compile(r"\b(?:env|fs|process)::\w|\bInstant::now\b|\.(?:accept|poll|since_1970)\(")
+IMPL, TYPE = re.compile(r"\bimpl\b[^{;]*\{"), re.compile(r"\b(?:enum|struct)\s+(\w+)[^{;]*\{")
 
 
-def is_edge(it: Function, text: str, unsaid: Sequence[str]) -> bool:
-    """Whether a function of a file stands at the edge, beside those of its crate that have no clause."""
-    return it.name in unsaid or bool(OF_SOCKET.search(it.name) or TAKES_MACHINE.search(text[it.head : it.start]))
+def holders_of(codes: Iterable[str]) -> re.Pattern[str]:
+    """What finds a type of these files that holds the machine."""
+    names = [found[1] for code in codes for found, block in blocks(code, TYPE) if MACHINE.search(block)]
+    return re.compile(rf"\b(?:{'|'.join(names)})\b" if names else r"(?!)")
+
+
+def is_at_machine(it: Function, code: str, holders: re.Pattern[str]) -> bool:
+    """Whether a function of a file is at the machine, by what finds a type that holds that."""
+    of_impls = (found[0] for found, block in blocks(code, IMPL) if found.end() <= it.head < found.end() + len(block))
+    own, of_impl = code[it.head : it.start], next(of_impls, "")
+    return bool(MACHINE.search(own + of_impl) or holders.search(of_impl) or CALL.search(code[it.start : it.end]))
 
 
 def sum_of(text: str) -> str:
@@ -36,10 +49,11 @@ def sum_of(text: str) -> str:
 
 def edges_of(texts: dict[str, str], unsaid: Sequence[str]) -> Iterator[str]:
     """The line of each function of a crate that stands at the edge, in the order of its files."""
-    homes = homes_of(texts)
+    homes, codes = homes_of(texts), {path: blanked(text) for path, text in texts.items()}
+    holders = holders_of(codes.values())
     for path, text in texts.items():
         for it in functions(text, path, homes):
-            if is_edge(it, text, unsaid):
+            if it.name in unsaid or is_at_machine(it, codes[path], holders):
                 yield f"  {sum_of(text[it.head : it.end])} {it.name}"
 
 

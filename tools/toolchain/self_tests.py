@@ -1,14 +1,15 @@
-"""Tries the reader of cases (tools/cases/suite.py) and their runs (tools/cases/run) over cases of its own; which checks have a
-second try (tools/checks.py, tools/days.py), and that tools/run has all that tools/test runs; the minutes of a build
-(tools/toolchain/chain.py) over crates of its own, and the seconds of a check (tools/toolchain/where_time.py); which functions have
-a clause (tools/toolchain/rattle_source.py, tools/pages/crates); that only tools/try, tools/test --quick, tools/benchmarks/unproved
-and tools/toolchain/families make an unproved program; which changes of a definition are seen (tools/pages/reading); whether the
-model over kept sums (tools/simulation/ledger.py) answers as the one that adds up; what tools/benchmarks/instructions says of two
-tables; what is done at a port that is taken (tools/serving.py); what tools/toolchain/families says of outcomes, and how a program can
-be two mutants (tools/toolchain/switches.py); whether tools/toolchain/mutants tries again what a change concerns
-(tools/toolchain/kept_trials.py), and can read all mutants; how tools/try, tools/build and tools/bank end
-(tools/toolchain/ended_commands.py); that each path which a tool names is there (tools/toolchain/named_paths.py); and that a retired word
-in a name of a crate is seen (tools/pages/terms).
+"""Tries the reader of cases (tools/cases/suite.py) and their runs (tools/cases/run) over cases of its own; which checks
+have a second try (tools/checks.py, tools/days.py), and that tools/run has all that tools/test runs; the minutes of a
+build (tools/toolchain/chain.py) over crates of its own, and the seconds of a check (tools/toolchain/where_time.py);
+which functions have a clause, and which are at the machine (tools/toolchain/rattle_source.py, tools/pages/crates); that
+only tools/try, tools/test --quick, tools/benchmarks/unproved and tools/toolchain/families make an unproved program;
+which changes of a definition or a law are seen (tools/pages/reading); whether the model over kept sums
+(tools/simulation/ledger.py) answers as the one that adds up; what tools/benchmarks/instructions says of two tables;
+what is done at a port that is taken (tools/serving.py); what tools/toolchain/families says of outcomes, and how a
+program can be two mutants (tools/toolchain/switches.py); whether tools/toolchain/mutants tries again what a change
+concerns (tools/toolchain/kept_trials.py), and can read all mutants; how tools/try, tools/build and tools/bank end
+(tools/toolchain/ended_commands.py); that each path which a tool names is there (tools/toolchain/named_paths.py); and
+that a retired word in a name of a crate is seen (tools/pages/terms).
 
     tools/toolchain/self-tests
 
@@ -40,7 +41,7 @@ from days import Days, up_to_last
 from first_look import compiling
 from model.bank import PROCEDURES, Bank
 from opening_lists import columns
-from pages import crates as CRATES, reading as READING, terms as TERMS
+from pages import crates as CRATES, defaults as DEFAULTS, edges as EDGES, reading as READING, terms as TERMS
 from repository import BANK_PROGRAM, TOP, below, dependencies
 from simulation.drawing import Drawing
 from simulation.ledger import MEMBERS
@@ -224,6 +225,24 @@ CLAUSES = [
         CRATES.against_mutants(["decide/gone", "decide/repeat_acts_again", "tools/toolchain/permit-mutants"]),
         ["docs/PROVED.md names decide/gone, which is no mutant"],
     ),
+]
+
+# Functions at the machine, which have a clause, and ghost members that are given something, nothing, and not at all.
+AT_MACHINE = {
+    "cli_counter": ["listener::AcceptedRead::read", "listener::AcceptedWrite::write", "listener::AcceptedWrite::flush"],
+    "cli_file": ["lists::MachineListsLists::read"],
+    "counter_clocks": ["shows::TShows::shown"],
+    "counter_connections": ["listener::CountedListener::accept", "running::MRuns::shown"],
+    "counter_door": ["readiness::SystemReadiness::now", "readiness::SystemReadiness::wait"],
+}
+GHOSTS = """
+trait Reads { ghost at: { ℕ } = { 0 }; ghost text: { List ℕ → Option (List ℕ) }; }
+impl Reads for Lists { ghost at = { 1 }; ghost text = { λ path. Some path }; }
+impl Reads for Machine { ghost text = { λ _. None }; }
+"""
+CLAUSES += [
+    (DEFAULTS.ghosts_of({"src/lib.rt": GHOSTS}), {"Reads": ["at", "text"]}),
+    ([*DEFAULTS.left_at_defaults({"src/lib.rt": GHOSTS}, {"Reads": ["at", "text"]})], ["MachineReads::at", "MachineReads::text"]),
 ]
 
 # The sum of a definition: of another text or of an import from elsewhere it is another, of another layout the same.
@@ -543,6 +562,13 @@ def require_all_parts_named():
     require(sorted([*quick, *ALL.LEFT_OUT]), sorted(parts), "parts that --quick runs or leaves out")
 
 
+def require_at_machine():
+    """What is at the machine is found as such, whether it has a clause or not."""
+    for crate, names in AT_MACHINE.items():
+        found = {line.split()[1] for line in EDGES.edges_of(CRATES.texts_of(crate), [])}
+        require(sorted({*names} - found), [], f"functions of {crate} at the machine that are not found")
+
+
 def require_retired_names():
     """A retired word in a name is seen, also in a mutant's line and in the name of a file, and neither in a comment nor in a text."""
     tried = {
@@ -591,6 +617,7 @@ def checks_of(room):
     yield Check("members_of_the_bank", require_members_of_the_bank)
     yield Check("retired_names", require_retired_names)
     yield Check("mutants_are_read", partial(require_mutants_read, room))
+    yield Check("functions_at_the_machine", require_at_machine)
     yield Check("quick_names_what_it_leaves_out", require_all_parts_named)
     yield Check("first_look_is_compiled_anew", partial(require_compiled_anew, room))
     yield from kept_trials.checks_of(MUTANTS.is_drawn, room)
