@@ -1,4 +1,4 @@
-"""No text of the program is a badge: whoever knows what stands in it is nobody.
+"""No text of the program is a badge: whoever knows what stands in it is nobody. Lists are read at the paths that were named.
 
     tools/faults/badges [--list] [--only TEXT] [PROGRAM]
 
@@ -6,18 +6,22 @@ PROGRAM is crates/bank_cli/out/bank_cli if it is left out. Every text of its dat
 crates, is sent as a badge that opens a session, to `run` and to `counter` over a bank whose list of badges has one user: as it
 stands, and each word of it. Each gets rule 1, but for the one badge of the list, which is such a text, too, so a check that
 overlooked it fails.
+
+The files that `init` and `run` open, also in vain, are those lists and the bank's own.
 """
 import functools
 import glob
 import os
 import re
 import subprocess
+import tempfile
 from collections.abc import Iterator
 
 from checks import Check, Wrong, lacking, reader, require, run_checks
+from faults.disk_calls import Watched
 from replies import statuses_in
 from repository import BANK_PROGRAM, TOP, below, dependencies
-from sample_file import BADGES, ended, make_sample
+from sample_file import BADGES, LISTS, ended, make_sample, run_arguments
 from serving import Counter, asked
 
 # What a badge may be, and the least of it that is looked for.
@@ -106,6 +110,23 @@ class Badges:
         return require_nobody(self.badges, statuses)
 
 
+def opened_by(program: str, folder: str, words: list[str]) -> set[str]:
+    """Which files a run opens, or asks for in vain."""
+    (status, _, errors), calls = Watched(program, folder).calls(words, os.path.join(folder, "opened"))
+    require((status, errors), (0, b""), f"the end of {words[0]}")
+    return {it.data.decode() for it in calls if it.kind in "cmo"}
+
+
+def require_named_files(program: str, room: str) -> None:
+    """Passes if `init` and `run` read the lists that are named to them, and of other files the bank's own alone."""
+    with tempfile.TemporaryDirectory(dir=room) as folder:
+        file = os.path.realpath(os.path.join(folder, "bank"))
+        own = {file, f"{file}-new", f"{file}-wal"}
+        lists = {os.path.join(LISTS, it) for it in os.listdir(LISTS)} - {BADGES}
+        require(opened_by(program, folder, ["init", file, LISTS]) - own, lists, "what init opens beside the bank")
+        require(opened_by(program, folder, run_arguments(file, 1)) - own, {BADGES}, "what run opens beside the bank")
+
+
 def main() -> int:
     given = reader(__doc__).parse_args()
 
@@ -115,6 +136,7 @@ def main() -> int:
         return [
             Check("no text is a badge of run", lambda: badges().to_run(), lacks),
             Check("no text is a badge of counter", lambda: badges().to_counter(), lacks),
+            Check("lists are those that are named", lambda: require_named_files(given.program, room)),
         ]
 
     return run_checks(given, checks_of)

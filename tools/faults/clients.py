@@ -6,14 +6,15 @@ where what they ask for is not counted.
 curl, wget and Python's own http.client ask for a post, a statement and a path that is not there. Other clients send two messages
 a byte at a time, end inside a message, say nothing, or send ten megabytes of one line: their connection ends, and the next one is
 served. The port is another's; a port that is served is so at 127.0.0.1 alone. A triple begins and another ends between two
-requests. With --long there come a client that sends a byte a second without end, one that reads none of its replies, and 10,000
-connections one after another, whose memory is compared with that of ten; that takes three minutes.
+requests. With --long there come a client that reads none of its replies, and 10,000 connections one after another, whose
+memory is compared with that of ten; that takes three minutes.
 
 Each of these is a run of its own, over a bank of its own, beside the others; who was late is tried once more at the end.
 """
 import contextlib
 import http.client
 import json
+import os
 import re
 import socket
 import subprocess
@@ -24,6 +25,7 @@ from replies import body_of, next_reply
 from sample_file import SampleBanks, ended, message, require_sound, run_to_end, run_arguments
 from served import most_held
 from serving import HOST, Counter, Serving, asked, connected, read_to_end, serve_arguments
+from simulation.machine import Machine
 
 SECONDS = 240
 FIELDS = {"Bank-Badge": "tess", "Bank-Session": "1"}
@@ -39,6 +41,8 @@ STATEMENT_END = b"    25.00         525.00\n"
 MOST_SILENCE = 30
 MOST_AGE = 120
 MOST_WRITING = 180
+# What a clock that is set reads first, in seconds.
+CLOCK_STARTED = 1_000
 # For how many seconds the rest of what a client sends is read after its last reply.
 PARTING = 1
 # So many seconds after it is granted a triple ends, and another begins. (What is silent beside it takes longer.)
@@ -182,6 +186,24 @@ def silent_connection_is_let_go(program, file, serve=Serving):
             serving.require_done()
 
 
+def old_connection_is_let_go(program, file, serve=Serving):
+    """A connection that lasts as long as one may, by a clock that is set: a message that begins then is not read."""
+    machine = Machine(os.path.dirname(file))
+    machine.set(stopped=CLOCK_STARTED)
+    with serve(program, file, 1_000, env=machine.environment(None)) as serving, connected(serving.port) as client:
+        # Of the two that come a second before, the first is read by a call that waited for it already.
+        for second in (0, MOST_AGE - 1, MOST_AGE - 1):
+            machine.set(stopped=CLOCK_STARTED + second)
+            client.sendall(BALANCE)
+            require(next_reply(lambda: client.recv(65536)), (BALANCE_REPLY, b""), f"a reply after {second} seconds")
+        machine.set(stopped=CLOCK_STARTED + MOST_AGE)
+        start = time.monotonic()
+        client.sendall(BALANCE[:1])
+        require(read_to_end(client), b"", f"after {MOST_AGE} seconds")
+        require_time(time.monotonic() - start, 0, MOST_SILENCE - 1, "what lets it go")
+        require_served(serving)
+
+
 def long_line_ends_alone(program, file, serve=Serving):
     """Ten megabytes of one line."""
     head = b"HTTP/1.1 431 Request Header Fields Too Large\r\nContent-Type: application/json\r\nContent-Length: 14\r\n"
@@ -288,21 +310,6 @@ def open_file_is_locked(program, file, serve=Serving):
         serving.require_done()
 
 
-def slow_connection_is_let_go(program, file, serve=Serving):
-    """A client that sends a byte a second without end; the next one waits no longer than that is let."""
-    with serve(program, file, 2) as serving, connected(serving.port) as client:
-        start = time.monotonic()
-        try:
-            while time.monotonic() - start < MOST_AGE + 10:
-                client.sendall(b"P")
-                time.sleep(1)
-        except ConnectionError:
-            pass
-        require_served(serving)
-        require_time(time.monotonic() - start, MOST_AGE - 1, MOST_AGE + 10, "the next connection")
-        serving.require_done()
-
-
 def memory_does_not_grow(program, file, serve=Serving):
     """10,000 connections one after another against ten."""
     with serve(program, file, 10_010) as serving:
@@ -326,6 +333,7 @@ TRIALS = [
     cut_connection_ends_alone,
     reset_connection_ends_alone,
     silent_connection_is_let_go,
+    old_connection_is_let_go,
     long_line_ends_alone,
     messages_are_counted,
     port_of_another_is_reported,
@@ -334,12 +342,14 @@ TRIALS = [
     triples_begin_and_end,
     open_file_is_locked,
 ]
-LONG = [slow_connection_is_let_go, unread_replies_end_alone, memory_does_not_grow]
+LONG = [unread_replies_end_alone, memory_does_not_grow]
+BY_WAITS = silent_connection_is_let_go, old_connection_is_let_go
+OF_SERVE_ALONE = *BY_WAITS, messages_are_counted, port_of_another_is_reported
 NEEDED = {"curl_is_answered": ["curl"], "wget_is_answered": ["wget"]}
 # What serves, beside the trials that are made of it.
 SERVED = {
     Serving: TRIALS,
-    Counter: [it for it in TRIALS if it not in (silent_connection_is_let_go, messages_are_counted, port_of_another_is_reported)],
+    Counter: [it for it in TRIALS if it not in OF_SERVE_ALONE],
 }
 LONG_SERVED = {Serving: LONG, Counter: [memory_does_not_grow]}
 

@@ -112,7 +112,9 @@ static int opened(int folder, const char *path, int flags, unsigned mode)
     int file = syscall(SYS_openat, folder, path, flags, mode);
     if (file >= 0 && file < (int)sizeof chosen)
         chosen[file] = *only && !strcmp(path, only);
-    if (file >= 0 && is_file(file))
+    if (file < 0)
+        tell('m', 0, 0, path, strlen(path));
+    else if (is_file(file))
         tell(is_change ? 'c' : 'o', file, flags & O_TRUNC ? 1 : 0, path, strlen(path));
     return file;
 }

@@ -10,7 +10,7 @@ LINE = re.compile(rb"(\w) (\d+) (\d+) (\d+)\n")
 
 
 class Call:
-    """A call that changed a file, or opened it."""
+    """A call that changed a file, or opened it, or found none to open."""
 
     def __init__(self, kind: str, file: int, where: int, data: bytes) -> None:
         self.kind = kind
@@ -20,7 +20,7 @@ class Call:
 
     def is_counted(self):
         """Whether it can be the call that is not made as it is asked for."""
-        return self.kind != "o"
+        return self.kind not in "mo"
 
 
 def calls_in(told: bytes) -> list[Call]:

@@ -264,6 +264,16 @@ def end_of_a_file_ends_nothing(program, file):
         ran.communicate()
 
 
+def bytes_of_the_input_end_nothing(program, file):
+    """What comes at standard input ends nothing, before its end does."""
+    with Counter(program, file) as counter:
+        os.write(counter.run.stdin.fileno(), b"end\n")
+        time.sleep(1.5)
+        require(counter.run.poll(), None, "status")
+        require(asked(counter.port, BALANCE), BALANCE_REPLY, "a balance")
+        counter.require_done()
+
+
 def place_is_one(program, file):
     """No place, and two of them."""
     for more in ("", "--port 8475 --inherited", "--port 8475 --socket x", "--socket x --inherited", "--port 0"):
@@ -630,6 +640,7 @@ TRIALS = [
     end_by_order_answers_what_has_come_on_a_slow_disk,
     disk_that_fails_is_reported_once,
     end_of_a_file_ends_nothing,
+    bytes_of_the_input_end_nothing,
     place_is_one,
     port_of_another_is_reported,
     unix_socket_is_served,
