@@ -88,11 +88,13 @@ interface DeskForm {
   focus(): void;
 }
 
-/** A screen: its address, its letter in the menu, the operations that it asks for, and what makes it for a desk. */
+/** A screen: its address, its letter in the menu, the operations and commands that it asks for, and what makes it for a desk. */
 interface DeskScreen {
   id: string;
   key: string;
   asks: string[];
+  /** Whether it asks for a drawer before it sends anything, if none is named. */
+  needsDrawer?: boolean;
   isWide?: boolean;
   /** Whether its heading is another than its name in the menu. */
   hasTitle?: boolean;

@@ -50,6 +50,11 @@ class Day:
         self.desk.until(lambda: self.desk.text("h1") not in ("", "Sign in and out"), "another screen, signed in")
 
 
+    def offers(self, name):
+        """Whether the menu offers a screen of this name: it does not where that is stepped back."""
+        return any(name in it for it in self.desk.texts("#menu > ul a"))
+
+
     def type_count(self, cents):
         """Types what was counted as one amount, and presses Enter."""
         self.desk.await_form()

@@ -94,7 +94,7 @@ def kept_meanwhile(day):
 
 def place_that_is_not_there(day):
     """Who may see the proof of a branch finds out at once that a drawer is not there, or that a branch is not shown to them. Whom it is
-    not shown is asked about a place that is another than before."""
+    not shown is asked about a place that is another than before. Without a drawer no deposits are offered, and balances come first."""
     desk = day.desk
     desk.as_user("sue", "#session")
     desk.send(branch="1", teller="99")
@@ -102,7 +102,8 @@ def place_that_is_not_there(day):
     desk.send(branch="9", teller="")
     desk.fault("shows you nothing of branch 9")
     desk.send(branch="1", teller="")
-    desk.until_text("h1", "Deposit, withdrawal")
+    desk.until_text("h1", "Balance")
+    require([day.offers("Deposit"), day.offers("Close the day")], [False, True], "what Sue is offered without a drawer")
     desk.as_user("tess", "#session")
     desk.send(branch="9", teller="1")
     has(desk.until(lambda: desk.text("dialog"), "a question"), "branch 9, drawer 1", "branch 1, drawer 11")
@@ -112,17 +113,23 @@ def place_that_is_not_there(day):
 
 
 def screens_step_back(day):
-    """A screen whose requests the bank refuses this user, whatever is named, steps back; its letter still leads there."""
+    """A screen whose requests the bank refuses this user, whatever is named, steps back, and one that another number could mend does
+    not; its letter still leads there."""
     desk = day.desk
     desk.as_user("tess")
-    offered = "#menu > ul a"
-    require([it for it in desk.texts(offered) if "Close the day" in it or "Transfer" in it], [], "what Tess was refused")
-    require(any("Deposit" in it for it in desk.texts(offered)), True, "what Tess may do")
-    desk.go("t", "Transfer")
-    seen = [it.text for it in desk.all("#menu details a")]
-    require(any("Transfer" in it for it in seen), True, "the screen, stepped back, is seen while it is shown")
+    require([day.offers(it) for it in ("Deposit", "Transfer", "Close the day")], [True] * 3, "what another number could mend")
     desk.as_user("sue")
-    require(any("Close the day" in it for it in desk.texts(offered)), True, "what Sue may do")
+    require(day.offers("Accounts"), True, "accounts before Sue is refused them")
+    desk.go("a", "Accounts")
+    has(desk.enter(first="1"), "Rule 3")
+    desk.until(lambda: not day.offers("Accounts"), "a menu without accounts")
+    desk.go("s", "Statement")
+    desk.send(which="20", account="101")
+    desk.outcome("Rule 3")
+    require(day.offers("Statement"), True, "statements after a refusal that another number could mend")
+    desk.go("a", "Accounts")
+    seen = [it.text for it in desk.all("#menu details a")]
+    require(any("Accounts" in it for it in seen), True, "the screen, stepped back, is seen while it is shown")
 
 
 def rest(day):

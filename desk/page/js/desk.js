@@ -7,6 +7,7 @@ import {askedText, branchOf} from './journal.js';
 import {showAmount} from './amounts.js';
 import {now} from './dates.js';
 import {setNames} from './names.js';
+import {keptOf, learned} from './allowed.js';
 import {cashOver} from './drawer-cash.js';
 import {readProof} from './reports.js';
 import {refusalText} from './refusals.js';
@@ -15,9 +16,6 @@ import {say} from './words.js';
 
 /** How often a question is asked where no reply comes. */
 const QUESTION_TRIES = 4;
-
-/** The rules that deny a user something whatever is asked of it: what they deny is stepped back in the menu. */
-const DENY_USERS = [2, 3, 17, 18];
 
 const isReport = ({type}) => type.startsWith('text/plain');
 const isBalance = ({body}) => Number.isInteger(body?.balance);
@@ -52,7 +50,7 @@ async function factsOf(store, badge) {
     place: (await store.fact(`${badge} place`)) ?? {branch: null, teller: null},
     shiftBegan: (await store.fact(`${badge} shift`)) ?? 0,
     rowsBefore: (await store.fact(`${badge} shift after`)) ?? 0, // the number of the last row before the shift
-    allowed: (await store.fact(`${badge} allowed`)) ?? {}, // by operation, whether the bank has let this user do it
+    allowed: keptOf((await store.fact(`${badge} allowed`)) ?? {}), // by operation or command, whether this user may do it
     dueMoves: (await store.fact('due moves')) ?? [], // of cash, after corrections, by whoever works at this machine
   };
 }
@@ -81,6 +79,7 @@ function keptBy(/** @type {Desk} */ desk, store) {
     async setPlace(place) {
       desk.place = place;
       await store.setFact(`${badge} place`, place);
+      desk.report('learned');
     },
 
     async setDueMoves(moves) {
@@ -132,9 +131,9 @@ function keptBy(/** @type {Desk} */ desk, store) {
 
     /** Learns from a reply what this user may do: whether there is something new. */
     async learn(name, state, reply) {
-      const isDenied = state === 'refused' && DENY_USERS.includes(reply.body?.rule) && desk.allowed[name] === undefined;
-      if (!isDenied && (state !== 'done' || desk.allowed[name] === true)) return false;
-      desk.allowed[name] = !isDenied;
+      const may = learned(desk.allowed, name, state, reply.body?.rule);
+      if (may === null) return false;
+      desk.allowed[name] = may;
       await store.setFact(`${badge} allowed`, desk.allowed);
       return true;
     },
@@ -168,7 +167,7 @@ function sessionOf(/** @type {Desk} */ desk, store, run) {
   return {
     sendInSession,
 
-    /** Opens a session. Its number was never before, so none of its requests' was. */
+    /** Opens a session. Its number was never before, so none of its requests' was. In the first is learned who is an officer. */
     async open() {
       const reply = await send({path: '/session', badge});
       const isOpened = judge(reply, ({body}) => Number.isInteger(body?.session)) === 'done';
@@ -177,6 +176,7 @@ function sessionOf(/** @type {Desk} */ desk, store, run) {
         await keepSession({number: desk.session, used: 0});
         await desk.note(say('signIn'), reply, say('end.session', {session: desk.session}));
         run();
+        if (desk.allowed.policy === undefined) await desk.ask('policy', null, null, () => true, () => {});
       }
       return {isOpened, reply};
     },
@@ -242,13 +242,19 @@ function questionsOf(/** @type {Desk} */ desk, {wait, report}) {
       return judge(reply, isBalance) === 'done' ? reply.body.balance : null;
     },
 
-    /** The proof of a branch, or null where the bank does not show it to this user, which is not said; `tell` gets that reply. */
-    async quietProof(branch, /** @type {(reply: BankReply) => void} */ tell = () => {}) {
-      // (where it was refused it is asked for once more in each session, as it may be granted since)
-      if (branch === null || (desk.allowed.proof === false && desk.hiddenIn === desk.session)) return null;
-      const found = await desk.ask('proof', {branch}, null, ({text}) => readProof(text), (_, __, reply) => reply && tell(reply));
-      desk.hiddenIn = found ? null : desk.session;
-      return found;
+    /** The proof of a branch and null; or null and the rule by which the bank does not show it, or null. Neither is said. */
+    async proofOf(branch) {
+      let rule = null;
+      const tell = (_, __, reply) => { rule = reply?.body?.rule ?? null; };
+      const proof = await desk.ask('proof', {branch}, null, ({text}) => readProof(text), tell);
+      desk.hidden = rule === null ? null : {branch, session: desk.session};
+      return {proof, rule};
+    },
+
+    /** The same proof or null. If it was refused it is asked for once more in each session, as it may be granted since. */
+    async quietProof(branch) {
+      const isHidden = desk.hidden?.branch === branch && desk.hidden.session === desk.session;
+      return branch === null || isHidden ? null : (await desk.proofOf(branch)).proof;
     },
 
     /** The name by which the office knows this user, or null: by the drawer that they put on here, whose holder the proof shows. */
@@ -304,7 +310,7 @@ function actionsOf(/** @type {Desk} */ desk, {store, queue, report, isMeant}) {
       const reply = await desk.sendInSession({path: `/policy/${name}`, body: JSON.stringify(body)});
       const state = judge(reply, ({body: found}) => found?.done === name);
       await desk.note(text, reply, state === 'done' ? say('state.done') : null, state === 'again' ? 'unsure' : undefined);
-      if (await desk.learn('command', state, reply)) report('learned');
+      if (await desk.learn(name, state, reply)) report('learned');
       report(state === 'again' ? 'unsure' : state, {name, text, kind: 'command'}, reply);
       return state;
     },
@@ -314,8 +320,8 @@ function actionsOf(/** @type {Desk} */ desk, {store, queue, report, isMeant}) {
 /**
  * The desk of a badge. `report(event, request, reply)` hears what happens: sending, again, session, done and refused of a
  * request; held, nosession, unkept, noreply, unsure, teller and unreadable where one was not sent, not answered, not a teller's or not read;
- * clear; sum, once no more of a sum is sent; and learned, where it is newly known what the user may do. `isMeant(last)` is asked before the
- * same as the last request is sent.
+ * clear; sum, once no more of a sum is sent; and learned, once it is newly known what the user may do, or where they work.
+ * `isMeant(last)` is asked before the same as the last request is sent.
  */
 export async function makeDesk({store, badge, report, isMeant = isRepeatMeant}) {
   const {wait, hurry} = makePauses();

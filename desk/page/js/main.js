@@ -2,6 +2,7 @@
 import {h, button} from './dom.js';
 import {send} from './http.js';
 import {openStore} from './store.js';
+import {firstOffered} from './allowed.js';
 import {makeDesk} from './desk.js';
 import {hasReceipt} from './receipt.js';
 import {printReceipt} from './paper.js';
@@ -90,7 +91,7 @@ async function offerReceipt(/** @type {JournalRow} */ made) {
 /** What the desk reports. */
 async function report(event, request, reply) {
   if (event === 'learned') {
-    menu.showMenu(SCREENS, desk.allowed);
+    menu.showMenu(SCREENS, desk);
     return;
   }
   if (event === 'sum') {
@@ -136,12 +137,13 @@ function draw(screen, made, given) {
 /** Shows the screen of the address. Shown again after a request, it leaves the focus to whoever has gone to the menu by then. */
 async function showScreen(isAgain = false) {
   const [id, query] = location.hash.slice(1).split('?');
-  const screen = SCREENS.find(one => one.id === id) ?? SCREENS[0];
+  const screen = SCREENS.find(one => one.id === id) ?? firstOffered(SCREENS, desk);
   turns += 1;
   const turn = turns;
   const given = new URLSearchParams(query ?? '');
   const again = () => (turn === turns ? showScreen(true) : null); // where no other was asked for meanwhile
-  const made = await screen.make(desk, {given, changed: showHeader, again, signIn});
+  const first = () => firstOffered(SCREENS, desk).id;
+  const made = await screen.make(desk, {given, changed: showHeader, again, signIn, first});
   if (turn !== turns) return; // another was asked for meanwhile
   draw(screen, made, given);
   if (isAgain && document.getElementById('menu').contains(document.activeElement)) return;
@@ -243,7 +245,7 @@ async function begin() {
   purposes = makePurposes(desk, store, ({body}) => outcome.add(h('p', {}, say('purpose.refused', {why: body?.office ?? ''}))));
   watchNames(work, desk);
   work.addEventListener('input', nextCustomer);
-  menu.showMenu(SCREENS, desk.allowed);
+  menu.showMenu(SCREENS, desk);
   addEventListener('hashchange', () => showScreen());
   addEventListener('keydown', pressed);
   addEventListener('online', () => desk.hurry());

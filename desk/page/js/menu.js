@@ -1,11 +1,9 @@
-// The menu of screens. Those that the bank has refused this user are stepped back, and still there.
+// The menu of screens. Those that this user may not use are stepped back, and still there.
+import {isOffered} from './allowed.js';
 import {h} from './dom.js';
 import {say} from './words.js';
 
 const menu = document.getElementById('menu');
-
-/** Whether all that a screen asks for was refused to this user, whatever it was asked of. */
-const isBack = (screen, allowed) => screen.asks.length > 0 && screen.asks.every(name => allowed[name] === false);
 
 function itemOf(/** @type {DeskScreen} */ {id, key}) {
   return h('li', {}, h('a', {href: `#${id}`, 'aria-keyshortcuts': key.toUpperCase()},
@@ -13,11 +11,11 @@ function itemOf(/** @type {DeskScreen} */ {id, key}) {
 }
 
 /** Draws the menu, and leaves the focus where it was. */
-export function showMenu(/** @type {DeskScreen[]} */ screens, /** @type {Record<string, boolean>} */ allowed) {
+export function showMenu(/** @type {DeskScreen[]} */ screens, /** @type {Desk} */ desk) {
   const held = menu.contains(document.activeElement) ? document.activeElement.getAttribute('href') : null;
   const current = menu.querySelector('[aria-current]')?.getAttribute('href');
-  const back = screens.filter(screen => isBack(screen, allowed));
-  const offered = screens.filter(screen => !back.includes(screen));
+  const offered = screens.filter(screen => isOffered(screen, desk));
+  const back = screens.filter(screen => !offered.includes(screen));
   const more = back.length === 0 ? null
     : h('details', {class: 'back'}, h('summary', {}, say('menu.back')), h('ul', {}, back.map(itemOf)));
   menu.replaceChildren(h('ul', {}, offered.map(itemOf)), ...more ? [more] : []);

@@ -68,4 +68,4 @@ async function make(desk, {given}) {
 }
 
 /** @type {DeskScreen} */
-export default {id: 'correct', key: 'e', asks: ['correct'], make};
+export default {id: 'correct', key: 'e', needsDrawer: true, asks: ['correct'], make};

@@ -155,11 +155,12 @@ async function make(/** @type {Desk} */ desk) {
     outcome.clear();
     list();
   });
-  const lead = h('p', {class: 'lead'}, say(desk.allowed.policy === false ? 'office.blind' : 'office.lead'));
+  const {policy: isOfficer} = desk.allowed;
+  const lead = isOfficer === true ? null : h('p', {class: 'lead'}, say(isOfficer === false ? 'office.blind' : 'office.lead'));
   const pick = h('div', {class: 'field', 'data-name': 'command'}, h('label', {for: 'command'}, say('office.command')), which);
   const rows = [h('div', {class: 'row'}, pick, listButton), h('div', {class: 'row'}, holder)];
   return {elements: [lead, ...rows, paper], focus: () => which.focus()};
 }
 
 /** @type {DeskScreen} */
-export default {id: 'policy', key: 'o', hasTitle: true, isWide: true, asks: ['policy', 'command'], make};
+export default {id: 'policy', key: 'o', hasTitle: true, isWide: true, asks: ['policy', 'define-set'], make};

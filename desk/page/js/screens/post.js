@@ -41,4 +41,4 @@ async function make(desk, {given}) {
 }
 
 /** @type {DeskScreen} */
-export default {id: 'post', key: 'p', asks: ['post'], make};
+export default {id: 'post', key: 'p', needsDrawer: true, asks: ['post'], make};

@@ -46,8 +46,7 @@ async function isMoved(/** @type {Desk} */ desk, {branch, teller}) {
  * work here all the same, once they say so again; one that is shown none is asked about a place that is another than before.
  */
 async function faultsOf(/** @type {Desk} */ desk, {branch, teller}, isSure) {
-  let rule = null;
-  const proof = await desk.quietProof(branch, reply => { rule = reply.body?.rule ?? null; });
+  const {proof, rule} = await desk.proofOf(branch);
   const drawer = proof?.tellers.find(one => one.teller === teller);
   if (proof && teller !== null && !drawer) return {teller: say('session.noDrawer', {branch, teller})};
   if (drawer && !await isOwn(desk, drawer)) return {teller: say('session.held', {teller, user: nameOf(drawer.holder)})};
@@ -57,7 +56,7 @@ async function faultsOf(/** @type {Desk} */ desk, {branch, teller}, isSure) {
   return await isMoved(desk, {branch, teller}) ? null : {branch: say('refused.nothing')};
 }
 
-async function make(/** @type {Desk} */ desk, {given, changed, again, signIn}) {
+async function make(/** @type {Desk} */ desk, {given, changed, again, signIn, first}) {
   const {branch, teller} = desk.place;
   let warned = null; // the place that nothing is shown of, which was said
 
@@ -79,8 +78,8 @@ async function make(/** @type {Desk} */ desk, {given, changed, again, signIn}) {
     await desk.setPlace(values);
     if (isBegun && !leavesDrawerOn(await desk.rows())) await desk.beginShift();
     changed();
-    const then = given.get('then') ?? 'post';
-    const isDrawerFirst = teller === null && values.teller !== null;
+    const then = given.get('then') ?? first();
+    const isDrawerFirst = teller === null && first() === 'post';
     location.hash = isDrawerFirst ? `drawer?then=${then}` : then;
     return null;
   }

@@ -27,4 +27,4 @@ async function make(desk, {given}) {
 }
 
 /** @type {DeskScreen} */
-export default {id: 'transfer', key: 't', asks: ['transfer'], make};
+export default {id: 'transfer', key: 't', needsDrawer: true, asks: ['transfer'], make};
