@@ -92,6 +92,30 @@ def kept_meanwhile(day):
     require(found, ["", "Choose deposit or withdrawal"], "after it was sent")
 
 
+def first_sign_in(day):
+    """Tess, who is shown no proof, types a branch that nobody is shown, then a drawer that is not there: each is said beside its field,
+    that of the drawer once she puts it on. What she is refused there stays in the menu, and says that the place may be wrong."""
+    desk = day.desk
+    desk.as_user("tess")
+    desk.send(branch="9", teller="99")
+    desk.fault("shows you nothing of branch 9")
+    desk.await_focus("branch")
+    has(desk.text("header").replace("\n", " "), "Branch none", "Drawer none")
+    desk.send(branch="1", teller="99")
+    desk.until_text("h1", "Drawer on, off")
+    day.type_count(0)
+    desk.fault("Branch 1 has no drawer 99, or you have no authorization for it")
+    desk.await_focus("teller")
+    day.look("drawer-that-is-not-there")
+    desk.go("p", "Deposit, withdrawal")
+    has(desk.enter(way="in", account=101, amount="5.00"), "Not done", "Rule 3", "You have done nothing at branch 1, drawer 99")
+    require(day.offers("Deposit"), True, "deposits after a refusal that another number mends")
+    desk.click("#outcome [data-name=place] a")
+    desk.until_text("h1", "Sign in and out")
+    desk.press("Sign out")
+    desk.outcome("Signed out")
+
+
 def place_that_is_not_there(day):
     """Who may see the proof of a branch finds out at once that a drawer is not there, or that a branch is not shown to them. Whom it is
     not shown is asked about a place that is another than before. Without a drawer no deposits are offered, and balances come first."""
@@ -105,8 +129,10 @@ def place_that_is_not_there(day):
     desk.until_text("h1", "Balance")
     require([day.offers("Deposit"), day.offers("Close the day")], [False, True], "what Sue is offered without a drawer")
     desk.as_user("tess", "#session")
-    desk.send(branch="9", teller="1")
-    has(desk.until(lambda: desk.text("dialog"), "a question"), "branch 9, drawer 1", "branch 1, drawer 11")
+    desk.send(branch="9", teller="11")
+    desk.fault("shows you nothing of branch 9")
+    desk.send(branch="1", teller="12")
+    has(desk.until(lambda: desk.text("dialog"), "a question"), "branch 1, drawer 12", "branch 1, drawer 11")
     desk.keys(Keys.ESCAPE)
     desk.fault("Nothing was changed")
     has(desk.text("header").replace("\n", " "), "Branch 1", "Drawer 11")

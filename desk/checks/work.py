@@ -21,7 +21,7 @@ def cents_of(text):
 
 
 def morning(day):
-    """Tess signs in, counts the notes and coins of her drawer by keys alone, and puts it on."""
+    """Tess signs in anew, counts the notes and coins of her drawer by keys alone, and puts it on."""
     desk, counter = day.desk, day.counter
     desk.as_user("tess")
     require(desk.text("h1"), "Sign in and out", "the first screen")
@@ -30,7 +30,7 @@ def morning(day):
     day.look("sign-in")
     desk.keys(Keys.ENTER)
     desk.until_text("h1", "Drawer on")
-    require(counter.sql("SELECT session, is_on FROM users WHERE user_no = ?", TESS), [(1, 1)], "session")
+    require(counter.sql("SELECT session, is_on FROM users WHERE user_no = ?", TESS), [(2, 1)], "session")
     before = day.asked()
     desk.keys("x", Keys.ENTER, Keys.ENTER)
     desk.steady(lambda: desk.js("arguments[0].closest('form').requestSubmit()", desk.field("cash")))
@@ -41,7 +41,7 @@ def morning(day):
     # 200 + 50 + 80 + 50 + 10 + 6 + 9 + 4 + .70 + .20 + .08 + .02 = 410.00, which the Enter after the last sends.
     for pieces in ["", "1", "", "1", "4", "5", "2", "3", "9", "8", "", "7", "4", "4", "2"]:
         desk.keys(*pieces, Keys.ENTER)
-    desk.outcome("Done", "410.00", "The vault has 590.00", "no. 1001")
+    desk.outcome("Done", "410.00", "The vault has 590.00", "no. 2001")
     require(counter.sql("SELECT cash, holder FROM tellers WHERE teller = 11"), [(41000, TESS)], "drawer 11")
 
 

@@ -10,13 +10,15 @@ import {words, languages, digits, times, corrections, days} from './words.js';
 import {newAccounts, movedCash} from './screens.js';
 import {wishes, officeAnswers} from './office.js';
 import {lessons, offers} from './allowed.js';
+import {worked, signIns, drawerFaults} from './place.js';
 import {besideAccounts, openedFor, leftCustomers, purposes, purposesOfParts} from './customers.js';
 import {parts, sentInParts, leftOfSums, shownSums, sameSums, coveredSums} from './sums.js';
 
 const TESTS = [amounts, reports, lastTurns, judged, slips, queues, queuesAcrossSessions, durable, stores, refusals, operations, ends,
   journals, receipts, papers, outcomes, commands, cash, cashOfBank, newAccounts, movedCash, ways, repeats, moves, drafts, handed,
   countedAndTyped, aside, words, languages, digits, times, corrections, days, parts, sentInParts, leftOfSums, shownSums, sameSums,
-  coveredSums, wishes, officeAnswers, besideAccounts, openedFor, leftCustomers, purposes, purposesOfParts, lessons, offers];
+  coveredSums, wishes, officeAnswers, besideAccounts, openedFor, leftCustomers, purposes, purposesOfParts, lessons, offers, worked,
+  signIns, drawerFaults];
 
 /** A test that waits for ever has failed. */
 const late = () => new Promise((_, reject) => setTimeout(() => reject(new Error('no end')), 15000));

@@ -19,6 +19,7 @@ import {watchDrawer} from './drawer-watch.js';
 import {bookedRow, lastSum, sumOf} from './sums.js';
 import {makeSumPanel} from './sum-panel.js';
 import {makePurposes} from './purposes.js';
+import {placeDoubt} from './place.js';
 import {accountSettled, resumeCustomers} from './new-customers.js';
 import {language, say} from './words.js';
 import * as menu from './menu.js';
@@ -104,9 +105,11 @@ async function report(event, request, reply) {
     return;
   }
   const isJudged = event === 'done' || event === 'refused';
+  const doubt = event === 'refused' ? await placeDoubt(desk, request, reply) : null;
   if (isJudged && request.noted?.sum) await showSum(request.noted.sum);
   else if (event !== 'again') outcome.show(event, request, reply);
   if (event === 'done' && hasReceipt(request)) await offerReceipt(request);
+  outcome.add(doubt);
   if (event === 'refused' && !request.noted?.sum) outcome.add(asking.offer(request, reply));
   if (event === 'done') asking.noticed(request, reply);
   if (event === 'done' && request.noted?.purpose) purposes.send();

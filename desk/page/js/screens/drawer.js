@@ -5,6 +5,7 @@ import {counting} from '../counting.js';
 import {cashOver, knownOf} from '../drawer-cash.js';
 import {cashChart} from '../chart.js';
 import {showAmount} from '../amounts.js';
+import {drawerFault} from '../place.js';
 import {countMeant} from '../second-look.js';
 import {say} from '../words.js';
 import * as outcome from '../outcome.js';
@@ -14,6 +15,12 @@ function expectedLine({cents, isOfBank}) {
   const key = cents === null ? 'drawer.unknown' : isOfBank ? 'drawer.expected.bank' : 'drawer.expected';
   const text = say(key, {expected: cents === null ? '' : showAmount(cents)});
   return h('details', {class: 'expected'}, h('summary', {}, say('drawer.should')), h('p', {'data-name': 'expected'}, text));
+}
+
+/** The state that a form gets of a drawer that was sent: a number that the bank refuses is said beside its field. */
+async function settled(/** @type {Desk} */ desk, place, state) {
+  const fault = state === 'refused' ? drawerFault(place, JSON.parse((await desk.lastRequest()).reply).rule) : null;
+  return fault ? {faults: {teller: fault}} : state;
 }
 
 /** Puts a drawer on or off, or says why not: the state that a form gets. */
@@ -26,10 +33,11 @@ async function sent(/** @type {Desk} */ desk, {way, teller: of, cash, release: n
   if (way === 'on') {
     const state = await desk.act('drawer-on', {branch, cash, teller: of}, number);
     if (state === 'done') await desk.setPlace({branch, teller: of});
-    return state;
+    return settled(desk, {branch, teller: of}, state);
   }
   const noted = await countMeant(of, await knownOf(desk, of), cash);
-  return noted === null ? 'kept' : desk.act('drawer-off', {branch, counted: cash, teller: of}, null, noted);
+  if (noted === null) return 'kept';
+  return settled(desk, {branch, teller: of}, await desk.act('drawer-off', {branch, counted: cash, teller: of}, null, noted));
 }
 
 async function make(/** @type {Desk} */ desk, {given, changed, again}) {

@@ -4,6 +4,7 @@ import {field} from '../fields.js';
 import {confirmed} from '../dialog.js';
 import {cashOver} from '../drawer-cash.js';
 import {nameOf} from '../names.js';
+import {hasWorkedAt} from '../place.js';
 import {say} from '../words.js';
 import * as outcome from '../outcome.js';
 
@@ -33,36 +34,43 @@ async function isOwn(/** @type {Desk} */ desk, {teller, holder}) {
   return confirmed(say('session.isOwn', {teller, user: nameOf(holder)}), say('session.mine'));
 }
 
-/** Whether another place is meant than the last, where the bank does not show that it is there. */
+/** Whether another place is meant than the last one that was worked at, of which the bank shows nothing. */
 async function isMoved(/** @type {Desk} */ desk, {branch, teller}) {
   const {branch: before, teller: drawer} = desk.place;
   const isSame = branch === before && (teller === drawer || teller === null || drawer === null);
   const values = {branch, before, drawer: drawer ?? say('header.none'), teller: teller ?? say('header.none')};
-  return before === null || isSame || confirmed(say('session.other', values), say('session.here'), [say('session.before', values)]);
+  if (isSame || !await hasWorkedAt(desk, desk.place)) return true;
+  return confirmed(say('session.other', values), say('session.here'), [say('session.before', values)]);
 }
 
 /**
- * What is wrong with a branch and a drawer by the proof of that branch, or null. One that was shown the proof of another branch may
- * work here all the same, once they say so again; one that is shown none is asked about a place that is another than before.
+ * What is wrong with a branch and a drawer by the proof of that branch, or null. A branch that is shown to nobody, or not to one who is
+ * shown another, is doubted once; one that is shown no proof is asked about a place that is another than before.
  */
-async function faultsOf(/** @type {Desk} */ desk, {branch, teller}, isSure) {
+async function faultsOf(/** @type {Desk} */ desk, place, /** @type {Set<number>} */ doubted) {
+  const {branch, teller} = place;
   const {proof, rule} = await desk.proofOf(branch);
   const drawer = proof?.tellers.find(one => one.teller === teller);
   if (proof && teller !== null && !drawer) return {teller: say('session.noDrawer', {branch, teller})};
   if (drawer && !await isOwn(desk, drawer)) return {teller: say('session.held', {teller, user: nameOf(drawer.holder)})};
   if (rule === 6) return {branch: say('session.noBranch', {branch})};
-  if (proof) return null;
-  if (desk.allowed.proof === true) return rule !== null && !isSure ? {branch: say('session.hidden', {branch})} : null;
-  return await isMoved(desk, {branch, teller}) ? null : {branch: say('refused.nothing')};
+  if (proof || doubted.has(branch)) return null;
+  const isHidden = rule === 2 || (rule === 3 && desk.allowed.proof === true);
+  if (isHidden && !await hasWorkedAt(desk, place)) {
+    doubted.add(branch);
+    return {branch: say('session.hidden', {branch})};
+  }
+  return await isMoved(desk, place) ? null : {branch: say('refused.nothing')};
 }
 
 async function make(/** @type {Desk} */ desk, {given, changed, again, signIn, first}) {
   const {branch, teller} = desk.place;
-  let warned = null; // the place that nothing is shown of, which was said
+  const doubted = new Set(); // branches
+  let isBegun = false; // whether this form opened the session
 
   async function sent(values) {
-    const isBegun = !desk.session;
-    if (isBegun) {
+    if (!desk.session) {
+      isBegun = true;
       const hasWaited = await desk.waits();
       if (!await signIn()) return null;
       if (hasWaited) {
@@ -70,16 +78,13 @@ async function make(/** @type {Desk} */ desk, {given, changed, again, signIn, fi
         return again(); // what comes of it is shown here, and belongs to the shift before
       }
     }
-    const faults = await faultsOf(desk, values, warned === values.branch);
-    if (faults) {
-      warned = values.branch;
-      return {faults};
-    }
+    const faults = await faultsOf(desk, values, doubted);
+    if (faults) return {faults};
     await desk.setPlace(values);
     if (isBegun && !leavesDrawerOn(await desk.rows())) await desk.beginShift();
     changed();
     const then = given.get('then') ?? first();
-    const isDrawerFirst = teller === null && first() === 'post';
+    const isDrawerFirst = first() === 'post' && !await hasWorkedAt(desk, values);
     location.hash = isDrawerFirst ? `drawer?then=${then}` : then;
     return null;
   }
