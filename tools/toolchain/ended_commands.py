@@ -49,10 +49,12 @@ def begin(room: str, command: str, path: str) -> subprocess.Popen[str]:
 
 
 def has_process(group: int) -> bool:
-    """Whether a group has a process."""
-    with contextlib.suppress(ProcessLookupError):
-        os.killpg(group, 0)
-        return True
+    """Whether a group has a process that has not ended. (One that has may wait long for who is to take note of it.)"""
+    for path in glob.glob("/proc/[0-9]*/stat"):
+        with contextlib.suppress(OSError), open(path, encoding="utf-8") as file:
+            state, _, its_group = file.read().rpartition(") ")[2].split()[:3]
+            if int(its_group) == group and state != "Z":
+                return True
     return False
 
 
