@@ -7,14 +7,13 @@ A file names an operation whose name says nothing else if it has that as it is i
 `move_cash`, `MoveCash`. If the name is a common word, as that of a post, it has to stand where it is the operation's: in the path
 of one of its own files, in a word that the page has with FORM in it (`prepare_post`), after what begins an operation (`Op::Post`,
 `/do/post`), or within three lines of another operation. Of the crates only those of the product are read; the lists of their
-modules are left out. Which operations, rules and commands there are is read from the definitions, which pages the office has in its
-menu from that.
+modules are left out. The operations, rules and commands are read from their definitions, the pages of the office from its menu.
 
-`--check` goes by tables of the page. The files of a table name all that its kind has: each operation, each rule, each command, each
-page of the office; or those of the examples, as `reviews` of the pages. In a table of files that name some, each names one at least.
-The other way round, each file that names one of them all, or an example, is in a table. FORM, CRATE and PAGE are what is added and
-the crate of its plan; a column after the files is not read. Of the files that name an operation a quarter at most is in no table.
-branch/front/nginx.conf must have the questions, which are the operations that take no slip. Each file is a check.
+`--check` compares tables of the page. A file in a table names all of its kind: all rules, all commands, all pages of the office, or all
+examples of operations. In a table of files that name some, each names at least one. The other way round, a file that names all of a
+kind, or an example, is in a table. FORM and PAGE mean what is added, CRATE the crate of its plan; columns after the files are
+not read. Of the files that name an operation, at most a quarter is in no table. branch/front/nginx.conf must have the questions,
+which are the operations that take no slip. Each file is a check.
 """
 import fnmatch
 import glob
@@ -47,7 +46,9 @@ FOLDERS = ("src", "specs", "proofs", "must-fail")
 PATH = re.compile(r"[\w-]+(?:/[\w*-]+)*(?:\.[\w.]+|/\*)")
 LEFT_OUT = ("lib.rt", "Lib.antt", "operation.py", "ADDING.md")
 NAME = r'^name_of (\w+) = codes "([a-z -]+)"$'
+# How many lines away another operation may be; what share of the files that name an operation may be in no table.
 NEAR, SHARE_IN_NO_TABLE = 3, 1 / 4
+# Whether a file, by its path and its text, names something.
 Names = Callable[[str, str], bool]
 
 
@@ -210,7 +211,7 @@ def faults_of(kind: Kind, files: dict[str, list[str]]) -> Iterator[str]:
 
 
 def strayed(texts: dict[str, str]) -> Iterator[str]:
-    """The operations that files name which are for the most part not their places."""
+    """The operations that too many files name which are in no table, a line each."""
     places = [it for heading in (OWN, EACH.format("operation"), SOME) for it in rows_of(heading)]
     for name in operations():
         files = Kind((), (), READ, {name: names_operation(name)}).files(texts)[name]
