@@ -68,13 +68,15 @@ def markup_of_replies(day):
 
 
 def markup_of_the_policy(day):
-    """Names of users stay text on the screen; the content policy blocks what would make markup all the same. The officer is offered
-    no deposits, though a drawer is named and nothing was refused, and the page begins with the policy."""
+    """Names of users stay text on the screen; the content policy blocks what would make markup all the same. The
+    officer is offered no deposits, though a drawer is named and nothing was refused, and the page begins with the
+    policy."""
     desk = day.desk
     desk.as_user("olga")
     day.sign_in(branch="1", teller="13")
     require(desk.text("h1"), "Administration: who may do what", "where an officer begins")
-    require([day.offers(it) for it in ("Deposit", "Balance", "Administration")], [False, False, True], "what an officer is offered")
+    require([day.offers(it) for it in ("Deposit", "Balance", "Administration")], [False, False, True],
+            "what an officer is offered")
     command(day, "enrol")
     for number, name in enumerate(["<img src=x onerror=", "<svg/onload=ran=1>", "&lt;b&gt;"], 20):
         has(desk.enter(user=number, name=name), "Done", name)

@@ -93,8 +93,9 @@ def kept_meanwhile(day):
 
 
 def first_sign_in(day):
-    """Tess, who is shown no proof, types a branch that nobody is shown, then a drawer that is not there: each is said beside its field,
-    that of the drawer once she puts it on. What she is refused there stays in the menu, and says that the place may be wrong."""
+    """Tess, who is shown no proof, types a branch that nobody is shown, then a drawer that is not there: each is said
+    beside its field, that of the drawer once she puts it on. What she is refused there stays in the menu, and says that
+    the place may be wrong."""
     desk = day.desk
     desk.as_user("tess")
     desk.send(branch="9", teller="99")
@@ -108,7 +109,8 @@ def first_sign_in(day):
     desk.await_focus("teller")
     day.look("drawer-that-is-not-there")
     desk.go("p", "Deposit, withdrawal")
-    has(desk.enter(way="in", account=101, amount="5.00"), "Not done", "Rule 3", "You have done nothing at branch 1, drawer 99")
+    has(desk.enter(way="in", account=101, amount="5.00"), "Not done", "Rule 3",
+        "You have done nothing at branch 1, drawer 99")
     require(day.offers("Deposit"), True, "deposits after a refusal that another number mends")
     desk.click("#outcome [data-name=place] a")
     desk.until_text("h1", "Sign in and out")
@@ -117,8 +119,9 @@ def first_sign_in(day):
 
 
 def place_that_is_not_there(day):
-    """Who may see the proof of a branch finds out at once that a drawer is not there, or that a branch is not shown to them. Whom it is
-    not shown is asked about a place that is another than before. Without a drawer no deposits are offered, and balances come first."""
+    """Who may see the proof of a branch finds out at once that a drawer is not there, or that a branch is not shown to
+    them. Whom it is not shown is asked about a place that is another than before. Without a drawer no deposits are
+    offered, and balances come first."""
     desk = day.desk
     desk.as_user("sue", "#session")
     desk.send(branch="1", teller="99")
@@ -139,11 +142,12 @@ def place_that_is_not_there(day):
 
 
 def screens_step_back(day):
-    """A screen whose requests the bank refuses this user, whatever is named, steps back, and one that another number could mend does
-    not; its letter still leads there."""
+    """A screen whose requests the bank refuses this user, whatever is named, steps back, and one that another number
+    could mend does not; its letter still leads there."""
     desk = day.desk
     desk.as_user("tess")
-    require([day.offers(it) for it in ("Deposit", "Transfer", "Close the day")], [True] * 3, "what another number could mend")
+    require([day.offers(it) for it in ("Deposit", "Transfer", "Close the day")], [True] * 3,
+            "what another number could mend")
     desk.as_user("sue")
     require(day.offers("Accounts"), True, "accounts before Sue is refused them")
     desk.go("a", "Accounts")

@@ -1,4 +1,5 @@
-"""The teller's page as `tools/try --page` serves it: its first lines are followed, then a post, what is shown of it, and its end."""
+"""The teller's page as `tools/try --page` serves it: its first lines are followed, then a post, what is shown of it,
+and its end."""
 import os
 import re
 import shutil
@@ -26,7 +27,8 @@ LAST = "Ctrl-C"
 
 
 class TryPage(Day):
-    """A run of the command whose first port somebody else has, with a client who sends half a request, and a browser at Tess's page."""
+    """A run of the command whose first port somebody else has, with a client who sends half a request, and a browser at
+    Tess's page."""
 
     def __init__(self, program, pictures=None, browser=Browser):
         self.pictures, self.room = pictures, Path(tempfile.mkdtemp(prefix="try-page-"))
@@ -40,7 +42,8 @@ class TryPage(Day):
         self.desk = None
         try:
             self.lines = self.first_lines()
-            self.ports = {badge: int(port) for port, badge in re.findall(rf"^http://{HOST}:(\d+)/ (\w+)$", self.lines, re.MULTILINE)}
+            self.ports = {badge: int(port)
+                          for port, badge in re.findall(rf"^http://{HOST}:(\d+)/ (\w+)$", self.lines, re.MULTILINE)}
             self.half = socket.create_connection((HOST, self.ports["tess"]))
             self.half.sendall(HALF % (HOST.encode(), self.ports["tess"]))
             self.desk = browser(SimpleNamespace(server_port=self.ports["tess"]), self.folder)
@@ -80,7 +83,8 @@ def first_lines(day):
     """Each badge has a port of its own, none of them the one that is taken; the lines after them say what to type."""
     require(sorted(day.ports), ["carl", "cora", "olga", "sue", "tess", "tom"], "badges")
     first = day.taken.getsockname()[1] + 1
-    require(min(day.ports.values()) >= first and len(set(day.ports.values())) == 6, True, f"ports {day.ports} from {first} on")
+    require(min(day.ports.values()) >= first and len(set(day.ports.values())) == 6, True,
+            f"ports {day.ports} from {first} on")
     has(day.lines, "the page of tess", "branch 1", "drawer 11", "Put the drawer on first")
 
 

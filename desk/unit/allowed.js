@@ -6,26 +6,34 @@ import {same} from './check.js';
 /** Only a refusal that no other number could mend says what a user may not do. */
 export function lessons() {
   for (const [name, rule, found] of [
-    ['post', 2, null], ['post', 3, null], ['proof', 3, null], ['accounts', 2, false], ['accounts', 3, false], ['accounts', 4, null],
-    ['policy', 17, false], ['define-set', 18, false], ['define-set', 21, null], ['grant', 18, null], ['enrol', 17, null],
+    ['post', 2, null], ['post', 3, null], ['proof', 3, null], ['accounts', 2, false], ['accounts', 3, false],
+    ['accounts', 4, null], ['policy', 17, false], ['define-set', 18, false], ['define-set', 21, null],
+    ['grant', 18, null], ['enrol', 17, null],
   ]) same(learned({}, name, 'refused', rule), found, `${name} refused by rule ${rule}`);
-  same([learned({}, 'post', 'done'), learned({post: true}, 'post', 'done'), learned({accounts: false}, 'accounts', 'done')], [true, null, true], 'done');
-  same([learned({accounts: true}, 'accounts', 'refused', 3), learned({}, 'accounts', 'again', 3)], [null, null], 'it was allowed before; no reply');
-  same(keptOf({post: false, proof: true, accounts: false}), {proof: true, accounts: false}, 'what an earlier page kept');
+  same([
+    learned({}, 'post', 'done'), learned({post: true}, 'post', 'done'), learned({accounts: false}, 'accounts', 'done'),
+  ], [true, null, true], 'done');
+  same([learned({accounts: true}, 'accounts', 'refused', 3), learned({}, 'accounts', 'again', 3)], [null, null],
+    'it was allowed before; no reply');
+  same(keptOf({post: false, proof: true, accounts: false}), {proof: true, accounts: false},
+    'what an earlier page kept');
 }
 
 /** Which screens the menu lacks, and where work begins. */
 function menuOf(allowed, branch = 1, teller = 11) {
   const desk = {allowed, place: {branch, teller}};
-  return [SCREENS.filter(screen => !isOffered(screen, desk)).map(({id}) => id).join(' '), firstOffered(SCREENS, desk).id];
+  return [SCREENS.filter(screen => !isOffered(screen, desk)).map(({id}) => id).join(' '),
+    firstOffered(SCREENS, desk).id];
 }
 
 export function offers() {
   same(menuOf({}), ['', 'post'], 'nothing is known');
-  same([menuOf({}, 1, null), menuOf({}, null, null)], [['post transfer correct', 'balance'], ['', 'post']], 'without a drawer, or not signed in');
+  same([menuOf({}, 1, null), menuOf({}, null, null)], [['post transfer correct', 'balance'], ['', 'post']],
+    'without a drawer, or not signed in');
   same(menuOf({accounts: false, policy: false}), ['accounts', 'post'], 'no officer');
   same(menuOf({'policy': false, 'define-set': false}), ['policy', 'post'], 'neither officer nor certifier');
   const ofOperations = 'post transfer balance statement correct drawer cash new-account accounts release day';
-  same([menuOf({policy: true}), menuOf({'policy': true, 'define-set': false})], [[ofOperations, 'policy'], [ofOperations, 'policy']], 'an officer');
+  same([menuOf({policy: true}), menuOf({'policy': true, 'define-set': false})],
+    [[ofOperations, 'policy'], [ofOperations, 'policy']], 'an officer');
   same(menuOf({policy: true, post: true})[1], 'post', 'a badge that was an officer\'s');
 }

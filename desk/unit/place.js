@@ -6,15 +6,17 @@ import {same, reply, row} from './check.js';
 import {sent} from './screens.js';
 
 const DEPOSIT = {account: 101, branch: 1, delta: 2500, teller: 11};
-const WORKED = [row(1, 'post', DEPOSIT, {}), {...row(2, 'post', {...DEPOSIT, teller: 13}, {}), state: 'refused'}, {state: 'done', text: 'Sign in'}];
+const WORKED = [row(1, 'post', DEPOSIT, {}), {...row(2, 'post', {...DEPOSIT, teller: 13}, {}), state: 'refused'},
+  {state: 'done', text: 'Sign in'}];
 
 /** A desk whose bank shows this proof, or refuses it by this rule, and which keeps where its user works. */
 function deskAt(place, {proof = null, rule = null, allowed = {}, rows = WORKED, refusedBy = 0} = {}) {
   const desk = {
     session: 1, badge: 'tess', place, allowed, shifts: 0,
-    proofOf: async () => ({proof, rule}), quietProof: async () => proof, rows: async () => rows, drawerRows: async () => rows,
-    setPlace: async found => { desk.place = found; }, beginShift: async () => { desk.shifts += 1; }, waits: async () => false,
-    act: async () => 'refused', lastRequest: async () => ({reply: JSON.stringify({name: 'x', rule: refusedBy})}),
+    proofOf: async () => ({proof, rule}), quietProof: async () => proof, rows: async () => rows,
+    drawerRows: async () => rows, setPlace: async found => { desk.place = found; },
+    beginShift: async () => { desk.shifts += 1; }, waits: async () => false, act: async () => 'refused',
+    lastRequest: async () => ({reply: JSON.stringify({name: 'x', rule: refusedBy})}),
   };
   return desk;
 }
@@ -22,16 +24,25 @@ function deskAt(place, {proof = null, rule = null, allowed = {}, rows = WORKED, 
 export async function worked() {
   const desk = deskAt({branch: null, teller: null});
   const at = (branch, teller) => hasWorkedAt(desk, {branch, teller});
-  same(await Promise.all([at(1, 11), at(1, null), at(1, 12), at(1, 13), at(2, 11), at(2, null)]), [true, true, false, false, false, false], 'worked');
-  const doubt = async (body, rule) => (await placeDoubt(desk, {body: JSON.stringify(body)}, reply(403, {name: 'x', rule})))?.textContent ?? null;
-  const text = 'You have done nothing at branch 9, drawer 99 on this machine so far: look at these two numbers, too. Sign in and out';
+  same(await Promise.all([at(1, 11), at(1, null), at(1, 12), at(1, 13), at(2, 11), at(2, null)]),
+    [true, true, false, false, false, false], 'worked');
+  const doubt = async (body, rule) => (
+    await placeDoubt(desk, {body: JSON.stringify(body)}, reply(403, {name: 'x', rule})))?.textContent ?? null;
+  const text = 'You have done nothing at branch 9, drawer 99 on this machine so far: look at these two numbers, too. '
+    + 'Sign in and out';
   const wrong = {...DEPOSIT, branch: 9, teller: 99};
-  same(await Promise.all([2, 3, 6, 7].map(rule => doubt(wrong, rule))), [text, text, text, text], 'a place where nothing was done');
-  same(await Promise.all([doubt(wrong, 4), doubt(wrong, 11), doubt(DEPOSIT, 3), doubt({branch: 9}, 3)]), [null, null, null, null], 'no doubt');
-  same(await placeDoubt(desk, {text: 'Balance', kind: 'question'}, reply(403, {name: 'x', rule: 3})), null, 'a question');
+  same(await Promise.all([2, 3, 6, 7].map(rule => doubt(wrong, rule))), [text, text, text, text],
+    'a place where nothing was done');
+  same(await Promise.all([doubt(wrong, 4), doubt(wrong, 11), doubt(DEPOSIT, 3), doubt({branch: 9}, 3)]),
+    [null, null, null, null], 'no doubt');
+  same(await placeDoubt(desk, {text: 'Balance', kind: 'question'}, reply(403, {name: 'x', rule: 3})), null,
+    'a question');
 }
 
-/** Fills in a screen and sends it, as often as is said: what its fields say last, and at which branch and drawer its user is then. */
+/**
+ * Fills in a screen and sends it, as often as is said: what its fields say last, and at which branch and drawer its
+ * user is then.
+ */
 async function filledIn(screen, desk, values, times = 1) {
   const signIn = async () => { desk.session = 1; return true; };
   const shell = {given: new URLSearchParams(), again: async () => {}, changed() {}, first: () => 'post', signIn};
@@ -40,7 +51,8 @@ async function filledIn(screen, desk, values, times = 1) {
   for (const [name, value] of Object.entries(values)) room.querySelector(`[data-name="${name}"] input`).value = value;
   for (let time = 0; time < times; time += 1) await sent(room);
   room.remove();
-  return [[...room.querySelectorAll('.error')].map(one => one.textContent).filter(Boolean).join(), desk.place.branch, desk.place.teller];
+  return [[...room.querySelectorAll('.error')].map(one => one.textContent).filter(Boolean).join(),
+    desk.place.branch, desk.place.teller];
 }
 
 export async function signIns() {
@@ -67,9 +79,12 @@ export async function signIns() {
 /** A drawer that the bank refuses is said beside its field, whatever else is on the screen. */
 export async function drawerFaults() {
   const not = 'Branch 1 has no drawer 99';
-  for (const [refusedBy, fault] of [[2, `${not}, or you have no authorization for it.`], [3, `${not}, or you have no authorization for it.`],
-    [6, `${not}.`], [7, `${not}.`], [4, ''], [8, ''], [12, '']]) {
+  for (const [refusedBy, fault] of [
+    [2, `${not}, or you have no authorization for it.`], [3, `${not}, or you have no authorization for it.`],
+    [6, `${not}.`], [7, `${not}.`], [4, ''], [8, ''], [12, ''],
+  ]) {
     const desk = deskAt({branch: 1, teller: null}, {refusedBy});
-    same(await filledIn(drawer, desk, {teller: 99, cash: '0'}), [fault, 1, null], `a drawer refused by rule ${refusedBy}`);
+    same(await filledIn(drawer, desk, {teller: 99, cash: '0'}), [fault, 1, null],
+      `a drawer refused by rule ${refusedBy}`);
   }
 }

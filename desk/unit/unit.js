@@ -17,8 +17,8 @@ import {parts, sentInParts, leftOfSums, shownSums, sameSums, coveredSums} from '
 const TESTS = [amounts, reports, lastTurns, judged, slips, queues, queuesAcrossSessions, durable, stores, refusals, operations, ends,
   journals, receipts, papers, outcomes, commands, cash, cashOfBank, newAccounts, movedCash, ways, repeats, moves, drafts, handed,
   countedAndTyped, aside, words, languages, digits, times, corrections, days, parts, sentInParts, leftOfSums, shownSums, sameSums,
-  coveredSums, wishes, officeAnswers, besideAccounts, openedFor, leftCustomers, purposes, purposesOfParts, lessons, offers, worked,
-  signIns, drawerFaults];
+  coveredSums, wishes, officeAnswers, besideAccounts, openedFor, leftCustomers, purposes, purposesOfParts, lessons,
+  offers, worked, signIns, drawerFaults];
 
 /** A test that waits for ever has failed. */
 const late = () => new Promise((_, reject) => setTimeout(() => reject(new Error('no end')), 15000));

@@ -319,8 +319,9 @@ function actionsOf(/** @type {Desk} */ desk, {store, queue, report, isMeant}) {
 
 /**
  * The desk of a badge. `report(event, request, reply)` hears what happens: sending, again, session, done and refused of a
- * request; held, nosession, unkept, noreply, unsure, teller and unreadable where one was not sent, not answered, not a teller's or not read;
- * clear; sum, once no more of a sum is sent; and learned, once it is newly known what the user may do, or where they work.
+ * request; held, nosession, unkept, noreply, unsure, teller and unreadable where one was not sent, not answered, not a
+ * teller's or not read; clear; sum, once no more of a sum is sent; and learned, once it is newly known what the user
+ * may do, or where they work.
  * `isMeant(last)` is asked before the same as the last request is sent.
  */
 export async function makeDesk({store, badge, report, isMeant = isRepeatMeant}) {

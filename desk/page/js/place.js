@@ -13,8 +13,8 @@ export async function hasWorkedAt(/** @type {Desk} */ desk, {branch, teller}) {
 }
 
 /**
- * What is wrong with a drawer that was not put on or off by this rule, or null. Such a request names a branch and a drawer, and no
- * other number that these rules look at.
+ * What is wrong with a drawer that was not put on or off by this rule, or null. Such a request names a branch and a
+ * drawer, and no other number that these rules look at.
  */
 export function drawerFault({branch, teller}, /** @type {number | undefined} */ rule) {
   if (!OF_NUMBERS.includes(rule)) return null;
@@ -24,6 +24,9 @@ export function drawerFault({branch, teller}, /** @type {number | undefined} */ 
 /** A line for a refusal that branch and drawer may be the cause of, as nothing was done there yet; or null. */
 export async function placeDoubt(/** @type {Desk} */ desk, request, /** @type {BankReply} */ reply) {
   const {branch, teller = null} = JSON.parse(request?.body ?? '{}');
-  if (teller === null || !OF_NUMBERS.includes(reply.body?.rule) || await hasWorkedAt(desk, {branch, teller})) return null;
-  return h('p', {'data-name': 'place'}, say('place.doubt', {branch, teller}), ' ', h('a', {href: '#session'}, say('screen.session')));
+  if (teller === null || !OF_NUMBERS.includes(reply.body?.rule) || await hasWorkedAt(desk, {branch, teller})) {
+    return null;
+  }
+  return h('p', {'data-name': 'place'},
+    say('place.doubt', {branch, teller}), ' ', h('a', {href: '#session'}, say('screen.session')));
 }

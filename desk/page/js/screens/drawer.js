@@ -37,7 +37,8 @@ async function sent(/** @type {Desk} */ desk, {way, teller: of, cash, release: n
   }
   const noted = await countMeant(of, await knownOf(desk, of), cash);
   if (noted === null) return 'kept';
-  return settled(desk, {branch, teller: of}, await desk.act('drawer-off', {branch, counted: cash, teller: of}, null, noted));
+  return settled(desk, {branch, teller: of},
+    await desk.act('drawer-off', {branch, counted: cash, teller: of}, null, noted));
 }
 
 async function make(/** @type {Desk} */ desk, {given, changed, again}) {

@@ -156,7 +156,8 @@ async function make(/** @type {Desk} */ desk) {
     list();
   });
   const {policy: isOfficer} = desk.allowed;
-  const lead = isOfficer === true ? null : h('p', {class: 'lead'}, say(isOfficer === false ? 'office.blind' : 'office.lead'));
+  const lead = isOfficer === true ? null
+    : h('p', {class: 'lead'}, say(isOfficer === false ? 'office.blind' : 'office.lead'));
   const pick = h('div', {class: 'field', 'data-name': 'command'}, h('label', {for: 'command'}, say('office.command')), which);
   const rows = [h('div', {class: 'row'}, pick, listButton), h('div', {class: 'row'}, holder)];
   return {elements: [lead, ...rows, paper], focus: () => which.focus()};

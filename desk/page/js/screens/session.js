@@ -44,8 +44,9 @@ async function isMoved(/** @type {Desk} */ desk, {branch, teller}) {
 }
 
 /**
- * What is wrong with a branch and a drawer by the proof of that branch, or null. A branch that is shown to nobody, or not to one who is
- * shown another, is doubted once; one that is shown no proof is asked about a place that is another than before.
+ * What is wrong with a branch and a drawer by the proof of that branch, or null. A branch that is shown to nobody, or
+ * not to one who is shown another, is doubted once; one that is shown no proof is asked about a place that is another
+ * than before.
  */
 async function faultsOf(/** @type {Desk} */ desk, place, /** @type {Set<number>} */ doubted) {
   const {branch, teller} = place;

@@ -399,7 +399,8 @@ export default {
   'session.noDrawer': 'Filiale {branch} hat keine Kasse {teller}.',
   'drawer.notYours': 'Filiale {branch} hat keine Kasse {teller}, oder Sie haben keine Berechtigung für diese Kasse.',
   'session.hidden': 'Von Filiale {branch} zeigt Ihnen die Bank nichts. Ist die Nummer richtig, senden Sie noch einmal.',
-  'place.doubt': 'In Filiale {branch} an Kasse {teller} haben Sie an diesem Gerät noch nichts erledigt: Prüfen Sie auch diese beiden Nummern.',
+  'place.doubt': 'In Filiale {branch} an Kasse {teller} haben Sie an diesem Gerät noch nichts erledigt: '
+    + 'Prüfen Sie auch diese beiden Nummern.',
   'front.down.title': 'Keine Antwort',
   'front.down.text': 'Der Server vor der Bank ist nicht erreichbar. Laden Sie die Seite nach einer Weile neu.',
   'front.unknown.title': 'Sie sind hier nicht bekannt',

@@ -395,7 +395,8 @@ export default {
   'session.noDrawer': 'Branch {branch} has no drawer {teller}.',
   'drawer.notYours': 'Branch {branch} has no drawer {teller}, or you have no authorization for it.',
   'session.hidden': 'The bank shows you nothing of branch {branch}. If the number is right, send it again.',
-  'place.doubt': 'You have done nothing at branch {branch}, drawer {teller} on this machine so far: look at these two numbers, too.',
+  'place.doubt': 'You have done nothing at branch {branch}, drawer {teller} on this machine so far: '
+    + 'look at these two numbers, too.',
   'front.down.title': 'No reply',
   'front.down.text': 'What stands in front of the bank can\'t be reached. Load the page again in a while.',
   'front.unknown.title': 'You are not known here',

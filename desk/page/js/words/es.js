@@ -396,7 +396,8 @@ export default {
   'session.noDrawer': 'La sucursal {branch} no tiene caja {teller}.',
   'drawer.notYours': 'La sucursal {branch} no tiene caja {teller}, o usted no tiene autorización para esa caja.',
   'session.hidden': 'El banco no le muestra nada de la sucursal {branch}. Si el número es correcto, envíe de nuevo.',
-  'place.doubt': 'En la sucursal {branch}, caja {teller}, usted aún no realizó nada en este equipo: revise también estos dos números.',
+  'place.doubt': 'En la sucursal {branch}, caja {teller}, usted aún no realizó nada en este equipo: '
+    + 'revise también estos dos números.',
   'front.down.title': 'Sin respuesta',
   'front.down.text': 'No hay conexión con el servidor del banco. Cargue la página de nuevo dentro de un rato.',
   'front.unknown.title': 'No se le conoce aquí',

@@ -398,9 +398,11 @@ export default {
   'session.none': 'Vous êtes {badge}, non connecté.',
   'session.noBranch': 'Il n\'y a pas d\'agence {branch}.',
   'session.noDrawer': 'L\'agence {branch} n\'a pas de caisse {teller}.',
-  'drawer.notYours': 'L\'agence {branch} n\'a pas de caisse {teller}, ou vous n\'avez pas d\'habilitation pour cette caisse.',
+  'drawer.notYours': 'L\'agence {branch} n\'a pas de caisse {teller}, ou vous n\'avez pas '
+    + 'd\'habilitation pour cette caisse.',
   'session.hidden': 'La banque ne vous montre rien de l\'agence {branch}. Si le numéro est juste, envoyez de nouveau.',
-  'place.doubt': 'À l\'agence {branch}, caisse {teller}, vous n\'avez encore rien effectué sur ce poste : vérifiez aussi ces deux numéros.',
+  'place.doubt': 'À l\'agence {branch}, caisse {teller}, vous n\'avez encore rien effectué sur ce poste : '
+    + 'vérifiez aussi ces deux numéros.',
   'front.down.title': 'Pas de réponse',
   'front.down.text': 'Le serveur devant la banque est injoignable. Rechargez la page dans un moment.',
   'front.unknown.title': 'Vous n\'êtes pas connu ici',
