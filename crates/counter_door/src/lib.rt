@@ -1,6 +1,7 @@
 //! The sockets of `counter`, and what is known of each. A door gives connections (`Door`), whose streams take and give bytes without a
 //! wait (`TwoWay`); which of them are ready a `Readiness` reports. `Recorded` remembers for proofs all that was read of a stream and written
-//! to it, and `Entrance` what a listener gave. Between these and mio's calls stand two functions, the only ones whose clauses are believed.
+//! to it, and `Entrance` what a listener gave. No clause says which bytes the calls below these move: those of mio, and those that
+//! cli_counter makes of them for an accepted stream.
 #![tactic(auto)]
 
 mod calls;
