@@ -30,7 +30,7 @@ from functools import partial
 from checks import Check, Wrong, reader, require, run_checks
 from faults.earlier_files import Tables, difference_of, without_moments
 from model.answers import answer, first_rule, is_stated
-from model.bank import BADGES, Bank
+from model.bank import BADGES, PROCEDURES, TAKES_SLIP, Bank
 from model.requests import DRAWN, Request, slips_of
 from replies import body_of
 from sample_file import SampleBanks, ended, require_sound, run_arguments
@@ -46,18 +46,8 @@ MOST_AT_A_TIME = 8
 MOST_ANSWERED = 12
 # At most how many seconds after some were sent the program is killed.
 LONGEST_OF_POST, LONGEST = 0.002, 0.004
-# How often each kind is drawn.
-WEIGHTS = {
-    "post": 12,
-    "transfer": 8,
-    "correct": 20,
-    "drawer-on": 2,
-    "drawer-off": 2,
-    "move-cash": 3,
-    "new-account": 3,
-    "release": 2,
-    "close-day": 1,
-}
+# How often each kind is drawn, of those that take a slip.
+WEIGHTS = {**{it: 2 for it in PROCEDURES if it in TAKES_SLIP}, "post": 12, "transfer": 8, "correct": 20}
 # Numbers of slips are those after the user's last, or one further on.
 FURTHER = (1, 1, 1, 2, 1_000)
 TESS, CENT = 7, {"account": 101, "branch": 1, "delta": 1, "teller": 11}

@@ -26,6 +26,9 @@ KINDS = ["account", "teller", "branch", "history", "drawer", "vault"]
 PROCEDURES = (
     "post transfer correct drawer-on drawer-off move-cash new-account release balance statement accounts proof close-day"
 ).split()
+# What the supervisors of drawn banks do alone, and what their tellers do.
+OF_SUPERVISORS_ALONE = ("new-account", "release", "proof", "close-day")
+OF_TELLERS = [it for it in PROCEDURES if it not in OF_SUPERVISORS_ALONE]
 RULES = (
     "identity, not certified, no triple, limit, release, unknown, branch, drawer, second person, entry, floor, cash, range, "
     "taken, day, full, officer, certifier, separation, policy unknown, policy state, slip"

@@ -17,7 +17,10 @@ from model.bank import (
     MOMENT,
     MOST_MOMENT,
     NAMES,
+    OF_SUPERVISORS_ALONE,
+    OF_TELLERS,
     PROCEDURES,
+    RELEASABLE,
     Bank,
     Body,
     Interval,
@@ -50,14 +53,14 @@ SETS: dict[int, list[Interval]] = {
     ELSEWHERE: [("account", 104, 499), ("teller", 21, 99), ("branch", 2, 9), ("history", 2, 9), ("drawer", 21, 99), ("vault", 2, 9)],
 }
 # Who certified what: on everything, so that it is the user's triples that deny, and on sets that others alone hold.
-OF_TELLERS = "post transfer correct drawer-on drawer-off move-cash balance statement accounts".split()
 RELATIONS = {
     **{(procedure, number): 2 for procedure in PROCEDURES for number in (ALL, COUNTER, ELSEWHERE)},
     **{("transfer", number): 2 for number in (ONE, OTHER)},
     **{("accounts", number): 2 for number in (LISTED, ONE)},
     ("new-account", NEW_ACCOUNTS): 2,
 }
-LIMITS = {"post": 40_000, "transfer": 20_000, "correct": 999_999, "drawer-on": 100_000, "move-cash": 50_000}
+OTHER_LIMITS = {"post": 40_000, "transfer": 20_000, "correct": 999_999, "drawer-on": 100_000}
+LIMITS = {**dict.fromkeys(RELEASABLE, 50_000), **OTHER_LIMITS}
 # The first and the last moments of triples by which something is asked for before the stream, and of all others.
 AT_FIRST = [(0, MOST_MOMENT), (0, MOMENT), (MOMENT, 701), (699, 750), (MOMENT, 799)]
 AT_ANY_TIME = [*AT_FIRST, (0, 699), (701, 750), (702, 702), (751, MOST_MOMENT)]
@@ -70,8 +73,9 @@ BENEFICIARIES = [7, 8]
 STRANGER = 20
 # What is asked for, and how many requests others have made before.
 ASKED_BY_TELLERS = ["session", "end", *OF_TELLERS * 3, *["post", "transfer", "correct", "drawer-on"] * 4, *["use of a release", "slip again"] * 3, "proof", "new-account"]
-ASKED_BY_SUPERVISOR = ["session", "end", *["new-account", "release", "proof", "close-day", "balance", "accounts", "slip again"] * 3, "post", "statement"]
-ASKED_BY_OTHERS = ["session", "end", *OF_TELLERS, "new-account", "release", "close-day", "define-set", "grant", "revoke", "enrol", "suspend", "restore"]
+ASKED_BY_SUPERVISOR = ["session", "end", *[*OF_SUPERVISORS_ALONE, "balance", "accounts", "slip again"] * 3, "post", "statement"]
+WRITTEN_BY_SUPERVISORS = [it for it in OF_SUPERVISORS_ALONE if it != "proof"]
+ASKED_BY_OTHERS = ["session", "end", *OF_TELLERS, *WRITTEN_BY_SUPERVISORS, "define-set", "grant", "revoke", "enrol", "suspend", "restore"]
 REQUESTS_BEFORE = 60
 # Requests of a kind are drawn until one is allowed: DRAWS of each kind at most, of KINDS_TRIED kinds. In a share ANY of all draws the
 # first is sent as it is, and in a share of these its body is spoiled.
@@ -111,15 +115,10 @@ def triples_of_tellers(user: int) -> Triples:
 
 
 def triples_of_supervisor() -> Triples:
-    limits = {
-        (SUPERVISOR, "new-account", NEW_ACCOUNTS): 1_000,
-        (SUPERVISOR, "release", COUNTER): 999_999,
-        (SUPERVISOR, "proof", COUNTER): 0,
-        (SUPERVISOR, "close-day", COUNTER): 0,
-        (SUPERVISOR, "balance", COUNTER): 0,
-        (SUPERVISOR, "accounts", LISTED): 0,
-    }
-    return {key: Triple(limit) for key, limit in limits.items()}
+    on = {"new-account": NEW_ACCOUNTS, "accounts": LISTED}
+    limits = {"new-account": 1_000, "release": 999_999}
+    held = (*OF_SUPERVISORS_ALONE, "balance", "accounts")
+    return {(SUPERVISOR, it, on.get(it, COUNTER)): Triple(limits.get(it, 0)) for it in held}
 
 
 def with_moments(triples: Triples, rng: Random) -> Triples:
@@ -151,7 +150,7 @@ def opened(user: int, common: Common, rng: Random) -> Bank:
     for other in {7, 8, SUPERVISOR} - {user, SUPERVISOR}:
         bank.triples.update({(other, procedure, ELSEWHERE): Triple(999_999) for procedure in OF_TELLERS})
     if user != SUPERVISOR:
-        bank.triples.update({(SUPERVISOR, it, ELSEWHERE): Triple(999_999) for it in ("new-account", "proof", "close-day")})
+        bank.triples.update({(SUPERVISOR, it, ELSEWHERE): Triple(999_999) for it in OF_SUPERVISORS_ALONE if it != "release"})
     bank.triples.update(common.triples)
     if rng.random() < 0.5:
         bank.users[STRANGER], bank.sessions[STRANGER] = "Ann", 0

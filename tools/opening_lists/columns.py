@@ -1,27 +1,17 @@
 """The opening lists, column by column, and how they are read and written."""
 import csv
 import io
+import json
 import os
 import re
 from collections.abc import Callable, Iterable
 from dataclasses import dataclass, field
 from typing import NamedTuple
 
-PROCEDURES = (
-    "post",
-    "transfer",
-    "correct",
-    "drawer-on",
-    "drawer-off",
-    "move-cash",
-    "new-account",
-    "release",
-    "balance",
-    "statement",
-    "accounts",
-    "proof",
-    "close-day",
-)
+# The paths of requests, as docs/openapi.json has them, to which a link leads here and in the package.
+with open(os.path.join(os.path.dirname(__file__), "openapi.json"), encoding="utf-8") as description:
+    PATHS = json.load(description)["paths"]
+PROCEDURES = tuple(it.removeprefix("/do/") for it in PATHS if it.startswith("/do/"))
 KINDS = ("account", "teller", "branch", "history", "drawer", "vault")
 MOST_KEY, MOST_USER, MOST_CENTS, MOST_LIMIT, MOST_MOMENT = 999_999_999, 9_999, 999_999_999_999, 999_999_999, 99_999_999_999
 

@@ -13,6 +13,8 @@ import tomllib
 from functools import partial
 
 from checks import Check, reader, require, run_checks
+from model.bank import PROCEDURES
+from opening_lists.pairs import APART
 from repository import TOP
 
 LISTS = os.path.join(TOP, "tools", "lists")
@@ -76,12 +78,7 @@ PLANTED = {
 SPOILED = {
     "an_officer_who_is_a_teller": ('officers = ["olga", "otto"]', 'officers = ["olga", "anna"]', "badge anna stands twice"),
     "a_drawer_twice": ("spare_drawers = [23, 24]", "spare_drawers = [23, 11]", "drawer 11 stands twice"),
-    "no_procedure": (
-        "close-day = 0",
-        "close = 0",
-        "supervisor: 'close' is none of post, transfer, correct, drawer-on, drawer-off, move-cash, new-account, release, "
-        "balance, statement, accounts, proof, close-day",
-    ),
+    "no_procedure": ("[supervisor]\n", "[supervisor]\nclose = 0\n", f"supervisor: 'close' is none of {', '.join(PROCEDURES)}"),
     "a_member_that_lacks": ("cash = 3000000\n", "", "branch 2: cash is not there"),
     "a_member_more": (
         "cash = 3000000\n",
@@ -107,8 +104,8 @@ SPOILED = {
     "two_roles_in_one_hand": (
         'supervisors = ["sue"]',
         'supervisors = ["sue", "anna"]',
-        "anna may post and release; anna may transfer and release; anna may correct and release; anna may drawer-on and close-day; "
-        "anna may new-account and transfer: what must not meet in one hand: take one away, or give the reason under [together]",
+        "; ".join(f"anna may {one} and {other}" for one, other in APART)
+        + ": what must not meet in one hand: take one away, or give the reason under [together]",
     ),
     "a_pair_of_one": ("serves_all = true", 'serves_all = true\napart = [["post"]]', "apart: a pair is as ['post', 'release'], and not ['post']"),
     "a_reason_for_nobody": (

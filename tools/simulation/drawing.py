@@ -9,6 +9,7 @@ from model.bank import (
     MOST_CENTS,
     MOST_KEY,
     MOST_MOMENT,
+    OF_TELLERS,
     PROCEDURES,
     RELEASABLE,
     Body,
@@ -18,7 +19,7 @@ from model.bank import (
 from model.requests import spoiled
 from simulation.ledger import LongBank
 from simulation.messages import NOBODY, Asked, Message
-from simulation.opening import DAY, EVERYTHING, OF_SUPERVISORS, OF_TELLERS, Opening
+from simulation.opening import DAY, EVERYTHING, OF_SUPERVISORS, Opening
 
 # Who asks for an operation, and its body.
 Drawn = tuple[int, Body]

@@ -5,7 +5,8 @@ import os
 from random import Random
 from typing import NamedTuple
 
-from model.bank import KINDS, MOST_CENTS, MOST_KEY, MOST_MOMENT, PROCEDURES, Interval, Triple
+from model.bank import KINDS, MOST_CENTS, MOST_KEY, MOST_MOMENT, OF_SUPERVISORS_ALONE, OF_TELLERS, OPERATIONS
+from model.bank import PROCEDURES, Interval, Triple
 from model.pairs import write_lists
 from simulation.ledger import LongBank
 
@@ -16,13 +17,15 @@ Ranges = dict[int, tuple[int, int]]
 FIRST_MOMENT = 1_700_000_000
 DAY = 86_400
 EVERYTHING = 1
-OF_TELLERS = "post transfer correct drawer-on drawer-off move-cash balance statement accounts".split()
-OF_SUPERVISORS = "new-account release proof close-day balance accounts statement".split()
+OF_SUPERVISORS = [*OF_SUPERVISORS_ALONE, "balance", "accounts", "statement"]
 MOST_USER = 9_999
-# The operations that come to an amount, and the most that one can come to.
-LIMITED = {
-    **dict.fromkeys(("post", "transfer", "correct", "release"), 999_999),
-    **dict.fromkeys(("drawer-on", "move-cash", "new-account"), MOST_KEY),
+# The members that limits are of; the operations that come to an amount, and the most that one can come to.
+AMOUNTS = ("delta", "amount", "cash", "floor")
+LIMITED = {"release": 999_999} | {
+    name: max(-form[0], form[1])
+    for name, members in OPERATIONS.items()
+    for member, form in members.items()
+    if member in AMOUNTS and not isinstance(form, str)
 }
 NAMES = (
     *("Ann", "Bo", 'Cy, the "Younger"', "Dora of the far Hills", "Ed", "Flo-Marie O'Neill", "~"),
