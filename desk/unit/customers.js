@@ -5,21 +5,18 @@ import {duePurposes, notedPurpose, purposesOf} from '../js/purposes.js';
 import {actInParts, bookedRow, sumOf} from '../js/sums.js';
 import {receiptOf} from '../js/receipt.js';
 import {notedText} from '../js/journal.js';
-import {deskOf} from './sums.js';
-import {reply, row, same} from './check.js';
+import {deskOf, reply, row, same} from './check.js';
 
 const ANN = {name: 'Ann', may: 'owns', address: 'Lane 1\nTown', born: '1961-12-31', warning: '', proposer: ''};
 
 export function besideAccounts() {
   const facts = {holders: [ANN, {...ANN, name: 'Bob', may: 'acts', address: '', born: '', warning: 'Ask first'}], floor: -30000};
-  same(cardLines(101, facts, 5000).map(([kind, text]) => `${kind}: ${text}`), [
-    ': 101: Ann (born Dec 31, 1961, Lane 1, Town)', ': May act for 101: Bob', 'warning: Warning, Bob: Ask first', ': Balance of 101: 50.00',
-    ': May be drawn from 101: 350.00',
-  ], 'all of an account');
+  same(cardLines(101, facts, 5000).map(line => line.join(': ')), [
+    ': 101: Ann (born Dec 31, 1961, Lane 1, Town)', ': May act for 101: Bob', 'warning: Warning, Bob: Ask first',
+    ': Balance of 101: 50.00', ': May be drawn from 101: 350.00'], 'all of an account');
   const proposed = {holders: [{...ANN, address: '', born: '', proposer: 'tess'}], floor: 0};
-  same(cardLines(101, proposed, 5000).map(([, text]) => text), [
-    '101: Ann (not accepted yet)', 'Ann waits for a second person: proposed by tess', 'Balance of 101: 50.00',
-  ], 'a name that is not accepted');
+  same(cardLines(101, proposed, 5000).map(([, text]) => text), ['101: Ann (not accepted yet)',
+    'Ann waits for a second person: proposed by tess', 'Balance of 101: 50.00'], 'a name that is not accepted');
   same([cardLines(101, {holders: [], floor: null}, null), cardLines(101, undefined, null)], [[['', '101: no name']], []], 'no name, and no office');
   same([drawnOf(-20000, -30000), drawnOf(-40000, -30000), drawnOf(5, 0), drawnOf(5, null), drawnOf(null, -5)], [10000, 0, null, null, null], 'drawn');
   same([shownName('Ann (?)'), shownName('Ann')], ['Ann (not accepted yet)', 'Ann'], 'the mark of the office');

@@ -11,8 +11,7 @@ import {showAmount} from '../js/amounts.js';
 import {DENOMINATIONS} from '../js/settings.js';
 import {makeDesk} from '../js/desk.js';
 import {openStore} from '../js/store.js';
-import {same, row} from './check.js';
-import {shown, sent} from './screens.js';
+import {same, row, sent, shown} from './check.js';
 
 const inputOf = (room, name) => room.querySelector(`[data-name="${name}"] input`);
 const chosenOf = room => room.querySelector('[data-name="way"] input:checked')?.value ?? null;

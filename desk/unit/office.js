@@ -5,10 +5,8 @@ import {same, reply, none} from './check.js';
 
 export function wishes() {
   for (const [name, rule, wish] of [
-    ['post', 4, 'release'], ['close-day', 4, null], ['post', 11, null], ['correct', 9, 'correct'], ['release', 9, null], [undefined, undefined, null],
-  ]) {
-    same(wishOf(name, rule), wish, `${name} and rule ${rule}`);
-  }
+    ['post', 4, 'release'], ['close-day', 4, null], ['post', 11, null], ['correct', 9, 'correct'], ['release', 9, null], [],
+  ]) same(wishOf(name, rule), wish ?? null, `${name} and rule ${rule}`);
   same(requestOf({procedure: 'post', account: 101, delta: 5}), {name: 'post', body: {account: 101, delta: 5}}, 'what is sent');
   const operation = {entry: 3, account: 101, other: 0, delta: -2500, teller: 11};
   same(correctionOf(operation), 'correct?entry=3&account=101&kind=out&amount=25.00&drawer=11', 'a withdrawal to correct');

@@ -2,8 +2,7 @@
 import {hasWorkedAt, placeDoubt} from '../js/place.js';
 import drawer from '../js/screens/drawer.js';
 import session from '../js/screens/session.js';
-import {same, reply, row} from './check.js';
-import {sent} from './screens.js';
+import {same, reply, row, sent} from './check.js';
 
 const DEPOSIT = {account: 101, branch: 1, delta: 2500, teller: 11};
 const WORKED = [row(1, 'post', DEPOSIT, {}), {...row(2, 'post', {...DEPOSIT, teller: 13}, {}), state: 'refused'},
@@ -24,25 +23,20 @@ function deskAt(place, {proof = null, rule = null, allowed = {}, rows = WORKED, 
 export async function worked() {
   const desk = deskAt({branch: null, teller: null});
   const at = (branch, teller) => hasWorkedAt(desk, {branch, teller});
-  same(await Promise.all([at(1, 11), at(1, null), at(1, 12), at(1, 13), at(2, 11), at(2, null)]),
-    [true, true, false, false, false, false], 'worked');
-  const doubt = async (body, rule) => (
-    await placeDoubt(desk, {body: JSON.stringify(body)}, reply(403, {name: 'x', rule})))?.textContent ?? null;
+  const places = [[1, 11], [1, null], [1, 12], [1, 13], [2, 11], [2, null]];
+  same(await Promise.all(places.map(place => at(...place))), [true, true, false, false, false, false], 'worked');
+  const panelOf = (request, rule) => placeDoubt(desk, request, reply(403, {name: 'x', rule}));
+  const doubt = async (body, rule) => (await panelOf({body: JSON.stringify(body)}, rule))?.textContent ?? null;
   const text = 'You have done nothing at branch 9, drawer 99 on this machine so far: look at these two numbers, too. '
     + 'Sign in and out';
   const wrong = {...DEPOSIT, branch: 9, teller: 99};
-  same(await Promise.all([2, 3, 6, 7].map(rule => doubt(wrong, rule))), [text, text, text, text],
-    'a place where nothing was done');
+  for (const rule of [2, 3, 6, 7]) same(await doubt(wrong, rule), text, `nothing was done there, rule ${rule}`);
   same(await Promise.all([doubt(wrong, 4), doubt(wrong, 11), doubt(DEPOSIT, 3), doubt({branch: 9}, 3)]),
     [null, null, null, null], 'no doubt');
-  same(await placeDoubt(desk, {text: 'Balance', kind: 'question'}, reply(403, {name: 'x', rule: 3})), null,
-    'a question');
+  same(await panelOf({text: 'Balance', kind: 'question'}, 3), null, 'a question');
 }
 
-/**
- * Fills in a screen and sends it, as often as is said: what its fields say last, and at which branch and drawer its
- * user is then.
- */
+/** Fills in a screen and sends it, as often as is said: what its fields say last, and where its user works then. */
 async function filledIn(screen, desk, values, times = 1) {
   const signIn = async () => { desk.session = 1; return true; };
   const shell = {given: new URLSearchParams(), again: async () => {}, changed() {}, first: () => 'post', signIn};
@@ -51,8 +45,8 @@ async function filledIn(screen, desk, values, times = 1) {
   for (const [name, value] of Object.entries(values)) room.querySelector(`[data-name="${name}"] input`).value = value;
   for (let time = 0; time < times; time += 1) await sent(room);
   room.remove();
-  return [[...room.querySelectorAll('.error')].map(one => one.textContent).filter(Boolean).join(),
-    desk.place.branch, desk.place.teller];
+  const faults = [...room.querySelectorAll('.error')].map(one => one.textContent).filter(Boolean);
+  return [faults.join(), desk.place.branch, desk.place.teller];
 }
 
 export async function signIns() {
@@ -79,12 +73,9 @@ export async function signIns() {
 /** A drawer that the bank refuses is said beside its field, whatever else is on the screen. */
 export async function drawerFaults() {
   const not = 'Branch 1 has no drawer 99';
-  for (const [refusedBy, fault] of [
-    [2, `${not}, or you have no authorization for it.`], [3, `${not}, or you have no authorization for it.`],
-    [6, `${not}.`], [7, `${not}.`], [4, ''], [8, ''], [12, ''],
-  ]) {
+  const both = `${not}, or you have no authorization for it.`;
+  for (const [refusedBy, fault] of [[2, both], [3, both], [6, `${not}.`], [7, `${not}.`], [4, ''], [8, ''], [12, '']]) {
     const desk = deskAt({branch: 1, teller: null}, {refusedBy});
-    same(await filledIn(drawer, desk, {teller: 99, cash: '0'}), [fault, 1, null],
-      `a drawer refused by rule ${refusedBy}`);
+    same(await filledIn(drawer, desk, {teller: 99, cash: '0'}), [fault, 1, null], `refused by rule ${refusedBy}`);
   }
 }

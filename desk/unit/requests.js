@@ -29,8 +29,7 @@ export function slips() {
 
 /** A journal in memory that keeps what it was asked for. */
 function journalInMemory() {
-  const rows = [];
-  const log = [];
+  const [rows, log] = [[], []];
   return {rows, log,
     write: async wanted => {
       const row = {...wanted, id: rows.length + 1, slip: 1001 + rows.length, tries: 0, state: 'waiting'};

@@ -1,27 +1,7 @@
 // Screens that are filled in: what they ask of the bank is what was typed and read back.
 import newAccount from '../js/screens/new-account.js';
 import moveCash from '../js/screens/move-cash.js';
-import {same} from './check.js';
-
-/** A screen in a room of its own, at a desk that keeps what it is asked for; `act` is what becomes of it. */
-export async function shown(screen, {address = '', state = 'refused', dueMoves = []} = {}) {
-  const asked = [];
-  const act = async (...request) => {
-    asked.push(request);
-    return state;
-  };
-  const desk = {place: {branch: 1, teller: 11}, act, customersDue: async () => [], keepCustomers: async () => {}, dueMoves, setDueMoves: async moves => { desk.dueMoves = moves; }};
-  const {elements} = await screen.make(desk, {given: new URLSearchParams(address), again: async () => {}});
-  const room = document.body.appendChild(document.createElement('section'));
-  room.append(...[elements].flat().filter(Boolean));
-  return {desk, room, asked};
-}
-
-/** Sends the form of a room, and waits until it has settled. */
-export async function sent(room) {
-  room.querySelector('form').requestSubmit();
-  await new Promise(resolve => setTimeout(resolve));
-}
+import {same, sent, shown} from './check.js';
 
 /** Types into the fields of a screen, or ticks their choices, and sends the form: what was read back, and each thing that was asked for. */
 async function filled(screen, values) {

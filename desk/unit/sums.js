@@ -4,7 +4,7 @@ import {actInParts, bookedRow, correctionsOf, lastSum, linesOf, newSum, operatio
 import {askedText, endText} from '../js/journal.js';
 import {receiptOf} from '../js/receipt.js';
 import {isSame} from '../js/second-look.js';
-import {same} from './check.js';
+import {deskOf, same} from './check.js';
 
 const DEPOSIT = {account: 101, branch: 1, delta: 2500000, teller: 11};
 const WITHDRAWAL = {...DEPOSIT, delta: -1500000};
@@ -20,23 +20,6 @@ export function parts() {
   same(inParts(2500000, 'x').includes('3') && inParts(2500000, 'x').startsWith('x'), true, 'three parts');
   same([withCents(WITHDRAWAL, 5).delta, withCents(DEPOSIT, 5).delta, withCents(TRANSFER, 5).amount], [-5, 5, 5], 'the same way');
   same(wholeOf([{...WITHDRAWAL, delta: -999999}, {...WITHDRAWAL, delta: -500001}]), WITHDRAWAL, 'the whole of parts');
-}
-
-/** A desk whose requests end with these states, and which keeps them; `balance` is what the bank shows. */
-export function deskOf(states, balance = 99999999) {
-  const [asked, rows] = [[], []];
-  const act = async (name, body, release, noted = {}) => {
-    const state = states[asked.length];
-    asked.push([name, body, release]);
-    const entry = 2 * asked.length;
-    const done = name === 'transfer' ? {branch: 1, first: entry, second: entry + 1, source: 7, target: 8} : {balance: 900 + entry, branch: 1, entry};
-    const reply = JSON.stringify(state === 'done' ? done : {name: 'limit', rule: 4});
-    const row = {badge: 'tess', name, body: JSON.stringify(body), noted, state, reply, slip: 1000 + asked.length, tries: 1, at: 1, answered: 2};
-    if (state !== 'kept') rows.push(row);
-    return state;
-  };
-  return {asked, kept: rows, act, rows: async () => rows, session: 1, waits: async () => false, balanceOf: async () => balance, sumSent: null,
-    report: () => {}};
 }
 
 export async function sentInParts() {

@@ -2,13 +2,12 @@
 import {OPERATIONS} from './operations.js';
 import {showAmount} from './amounts.js';
 import {wholeOf} from './parts.js';
+import {RELEASED} from './released.js';
 import {say} from './words.js';
-
-const RELEASED = ['post', 'transfer', 'correct', 'drawer-on', 'move-cash'];
 
 /** What a refused request can be asked of colleagues: a release, a correction, or nothing. */
 export function wishOf(name, rule) {
-  if (rule === 4 && RELEASED.includes(name)) return 'release';
+  if (rule === 4 && name in RELEASED) return 'release';
   return rule === 9 && name === 'correct' ? 'correct' : null;
 }
 

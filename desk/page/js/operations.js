@@ -5,7 +5,8 @@ import {say} from './words.js';
 
 /**
  * @typedef {{label: string, figure: string, more: string}} End What came of a request.
- * @typedef {{members: string[], asked: (body: any) => string, end: (body: any, reply: any) => End}} Operation
+ * @typedef {{members: string[], isRepeatable?: boolean, asked: (body: any) => string, end: (body: any, reply: any) => End}}
+ *   Operation
  */
 
 /** Which of a move's places is the vault: a part of keys. */
@@ -21,17 +22,18 @@ function endOfTransfer(source, target, reply) {
 }
 
 /**
- * By name: `members` of a reply, which are whole numbers; `asked(body)`; `end(body, reply)`.
+ * By name: `members` of a reply, which are whole numbers; `isRepeatable`, if it moves money each time it is sent: of any
+ * other the bank refuses the second; `asked(body)`; `end(body, reply)`.
  * @type {Record<string, Operation>}
  */
 export const OPERATIONS = {
   'post': {
-    members: ['balance', 'branch', 'entry'],
+    members: ['balance', 'branch', 'entry'], isRepeatable: true,
     asked: b => say(b.delta < 0 ? 'asked.withdrawal' : 'asked.deposit', {...b, amount: showAmount(Math.abs(b.delta))}),
     end: endOfPost,
   },
   'transfer': {
-    members: ['branch', 'first', 'second', 'source', 'target'],
+    members: ['branch', 'first', 'second', 'source', 'target'], isRepeatable: true,
     asked: b => say('asked.transfer', {...b, amount: showAmount(b.amount)}),
     end: (b, r) => endOfTransfer(b.source, b.target, r),
   },
@@ -54,7 +56,7 @@ export const OPERATIONS = {
     }),
   },
   'move-cash': {
-    members: ['moved', 'source', 'target'],
+    members: ['moved', 'source', 'target'], isRepeatable: true,
     asked: b => say(`asked.move.${placesOf(b)}`, {...b, amount: showAmount(b.amount)}),
     end: (b, r) => ({
       label: say('end.moved'), figure: showAmount(r.moved),
@@ -67,7 +69,7 @@ export const OPERATIONS = {
     end: (b, r) => ({label: say('end.newAccount'), figure: String(r.account), more: say('end.home', {...r, balance: showAmount(0)})}),
   },
   'release': {
-    members: ['beneficiary', 'release'],
+    members: ['beneficiary', 'release'], isRepeatable: true,
     asked: b => say('asked.release', {user: nameOf(b.beneficiary), asked: OPERATIONS[b.operation.procedure].asked(b.operation)}),
     end: (b, r) => ({label: say('end.release'), figure: String(r.release), more: say('end.released', {user: nameOf(r.beneficiary)})}),
   },
@@ -80,6 +82,9 @@ export const OPERATIONS = {
     }),
   },
 };
+
+/** All that can be allowed: these, and the questions. */
+export const PROCEDURES = [...Object.keys(OPERATIONS), 'balance', 'statement', 'accounts', 'proof'];
 
 export function differenceText(difference) {
   if (difference === 0) return say('count.agrees');

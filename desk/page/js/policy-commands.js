@@ -2,9 +2,6 @@
 import {parseMoment} from './dates.js';
 import {say} from './words.js';
 
-export const PROCEDURES = ['post', 'transfer', 'correct', 'drawer-on', 'drawer-off', 'move-cash', 'new-account', 'release', 'balance',
-  'statement', 'accounts', 'proof', 'close-day'];
-
 /** The kinds of items, by number from 1. */
 export const KINDS = ['account', 'teller', 'branch', 'history', 'drawer', 'vault'];
 

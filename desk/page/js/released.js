@@ -1,3 +1,12 @@
+/** The operations that can be released, each with the fields that it has beside the branch. */
+export const RELEASED = {
+  'post': ['teller', 'way', 'account', 'amount'],
+  'transfer': ['teller', 'source', 'target', 'amount'],
+  'correct': ['teller', 'entry', 'account', 'way', 'amount', 'other'],
+  'drawer-on': ['teller', 'cash'],
+  'move-cash': ['from', 'to', 'cash'],
+};
+
 /** The operation of a release, as the bank takes it, from what was typed. */
 export function operationOf(values) {
   const {procedure, branch, teller, entry, way, account, source, target, other, from, to, amount, cash} = values;

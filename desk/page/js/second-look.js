@@ -3,12 +3,10 @@ import {confirmed, witnessFor} from './dialog.js';
 import {showAmount} from './amounts.js';
 import {showClock} from './dates.js';
 import {askedText} from './journal.js';
+import {OPERATIONS} from './operations.js';
 import {withCents} from './parts.js';
 import {say} from './words.js';
 import {DIFFERENCE_BOUND} from './settings.js';
-
-/** Requests that move money each time they are sent. Of any other the bank refuses the second. */
-const REPEATABLE = ['post', 'transfer', 'move-cash', 'release'];
 
 /** The body of a request; of a part, that of the sum. */
 const wholeBody = ({body, noted}) => (noted?.sum === undefined ? body : JSON.stringify(withCents(JSON.parse(body), noted.total)));
@@ -17,7 +15,7 @@ const wholeBody = ({body, noted}) => (noted?.sum === undefined ? body : JSON.str
 export function isSame(last, wanted) {
   const isFurther = wanted.noted?.sum !== undefined && wanted.noted.sum === last?.noted?.sum;
   const isAlike = last?.state === 'done' && last.name === wanted.name && wholeBody(last) === wholeBody(wanted);
-  return isAlike && !isFurther && REPEATABLE.includes(wanted.name);
+  return isAlike && !isFurther && OPERATIONS[wanted.name].isRepeatable === true;
 }
 
 /** Asks whether a request is meant that is the same as the last one. */

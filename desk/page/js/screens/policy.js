@@ -5,7 +5,8 @@ import {showAmount} from '../amounts.js';
 import {exampleDay, isMoment, showTime} from '../dates.js';
 import {readPolicy} from '../reports.js';
 import {confirmed} from '../dialog.js';
-import {KINDS, PROCEDURES, FOREVER, bodyOf} from '../policy-commands.js';
+import {PROCEDURES} from '../operations.js';
+import {KINDS, FOREVER, bodyOf} from '../policy-commands.js';
 import {say} from '../words.js';
 import * as outcome from '../outcome.js';
 

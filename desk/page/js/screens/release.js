@@ -2,18 +2,9 @@ import {h} from '../dom.js';
 import {form} from '../form.js';
 import {field, account, amount, branchField, amountText} from '../fields.js';
 import {wayField} from '../ways.js';
-import {operationOf} from '../released.js';
+import {RELEASED, operationOf} from '../released.js';
 import {nameOf} from '../names.js';
 import {say} from '../words.js';
-
-/** The operations that can be released, each with the fields that it has beside the branch. */
-const RELEASED = {
-  'post': ['teller', 'way', 'account', 'amount'],
-  'transfer': ['teller', 'source', 'target', 'amount'],
-  'correct': ['teller', 'entry', 'account', 'way', 'amount', 'other'],
-  'drawer-on': ['teller', 'cash'],
-  'move-cash': ['from', 'to', 'cash'],
-};
 
 function fieldsOf(desk) {
   const place = (name, label) => field({name, label, kind: 'number', least: 0});
