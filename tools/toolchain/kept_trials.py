@@ -15,7 +15,7 @@ from toolchain.program import output_of
 
 SOURCE, EDIT = "crates/high/src/lib.rt", "crates/high/must-fail/other_answer.edit"
 LIBRARY, KIT, TOOL = "crates/low/out/rlib/low.rlib/format", "kit/KIT-ID", "tools/toolchain/rattle_source.py"
-TOOLS = ("tools/repository.py", "tools/toolchain/__init__.py", "tools/toolchain/kept.py", "tools/toolchain/mutants", TOOL)
+TOOLS = ("tools/repository.py", "tools/toolchain/__init__.py", "tools/toolchain/kept.py", "tools/toolchain/mutants.py", TOOL)
 TEXTS = {
     "crates.txt": "low:\nhigh: low\n",
     SOURCE: "pub fn answer() -> u8 { 1 }\n",
@@ -79,8 +79,10 @@ def make_repository(room):
 def run_tool(room, seed, words=(), variables=None):
     """What the tool says in such a folder, in which it keeps what it keeps."""
     path = f"{room}/kit/bin:{os.environ['PATH']}"
-    words = [f"{room}/tools/toolchain/mutants", "--libraries", room, "--seed", str(seed), *words]
-    return output_of(words, env={**os.environ, "PATH": path, "XDG_CACHE_HOME": f"{room}/cache", **(variables or {})})[1]
+    tool = [sys.executable, "-c", "from toolchain.mutants import main\nraise SystemExit(main())"]
+    words = [*tool, "--libraries", room, "--seed", str(seed), *words]
+    more = {"PATH": path, "XDG_CACHE_HOME": f"{room}/cache", **(variables or {})}
+    return output_of(words, f"{room}/tools", env={**os.environ, **more})[1]
 
 
 def require_parts(said, parts):

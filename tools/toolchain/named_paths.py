@@ -9,10 +9,10 @@ from checks import Check, require, require_nothing
 from repository import TOP
 
 # Whose text is read: these files, and all below these folders; but not those that make a tree of their own, to try a tool on.
-READ = (".ci", "branch/package", "branch/test", "desk/test", "office/test", "tools")
+READ = (".ci", "branch/tests/package.py", "branch/tests/test.py", "desk/tests/test.py", "office/tests/test.py", "tools")
 LEFT_OUT = ("tools/linters/planted.py", "tools/toolchain/kept_trials.py", "tools/toolchain/named_paths.py")
 # A path as it is written, and one whose parts are joined.
-WRITTEN = re.compile(r"(?<![\w/.~-])(?:\{TOP\}/)?((?:branch|crates|desk|docs|migrations|office|rows|sample|tools)/[\w./*{}-]*[\w*}])")
+WRITTEN = re.compile(r"(?<![\w/.~-])(?:\{TOP\}/)?((?:branch|crates|desk|docs|migrations|office|programs|rows|sample|tools)/[\w./*{}-]*[\w*}])")
 JOINED = re.compile(r'join\(TOP((?:, "[^"]+")+)')
 # A part of a path that can be any name, and what a path has that is made first, or whose name the reader has to choose.
 ANY, MADE = re.compile(r"\{\w*\}"), re.compile(r"/out(?:/|$)|/[A-Z]+/")

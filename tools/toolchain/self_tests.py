@@ -19,8 +19,6 @@ program needs yet: files, SQL, several runs in one folder, and that a row which 
 import contextlib
 import copy
 import glob
-import importlib.machinery
-import importlib.util
 import io
 import json
 import os
@@ -32,7 +30,9 @@ import tempfile
 from functools import partial
 from unittest import mock
 
+import parts as PARTS
 import serving
+import test as ALL
 from benchmarks import counting, instructions
 from cases import run as CASES
 from cases.suite import BadRow, Suite, bytes_of_lines, reply, request, spelled
@@ -47,7 +47,7 @@ from simulation.drawing import Drawing
 from simulation.ledger import MEMBERS
 from simulation.opening import FIRST_MOMENT, opening_of
 from simulation.table_rows import rows_of_bank
-from toolchain import ended_commands, kept_trials, named_paths
+from toolchain import ended_commands, kept_trials, mutants, named_paths
 from toolchain.chain import ends, longest_chain, minutes_left, minutes_of
 from toolchain.families import lines_of
 from toolchain.rattle_source import promised
@@ -55,15 +55,6 @@ from toolchain.switches import Mutant, place_of, switched
 from toolchain.where_time import Spent, spent
 
 
-def tool(name):
-    """A tool as a module."""
-    loader = importlib.machinery.SourceFileLoader(name, os.path.join(TOP, "tools", name))
-    module = importlib.util.module_from_spec(importlib.util.spec_from_loader(name, loader))
-    loader.exec_module(module)
-    return module
-
-
-MUTANTS, ALL, RUN = tool("toolchain/mutants"), tool("test"), tool("run")
 ECHO = r"run -c import\ssys;sys.stdout.write(sys.stdin.read())"
 QUIET = 'run -c ""'
 LISTS = r"""
@@ -286,14 +277,14 @@ SUMS = [
 
 # The files that name the folder of the unproved program, or the modules that make it.
 UNPROVED = re.compile(r"first[-_]look")
-MAY_NAME_IT = {"tools/try", "tools/test", "tools/first_look/compiling.py", "tools/benchmarks/unproved.py", "tools/toolchain/families.py",
+MAY_NAME_IT = {"tools/try", "tools/test.py", "tools/first_look/compiling.py", "tools/benchmarks/unproved.py", "tools/toolchain/families.py",
                "tools/toolchain/switched_tests.py", "tools/toolchain/self_tests.py"}
 
 
 def naming_unproved():
     """The files of the tools, the branch, the page and CI that name the unproved program."""
     found = set()
-    for folder in ("tools", "branch", "desk", ".ci"):
+    for folder in ("tools", "branch", "programs", "desk", ".ci"):
         for within, _, names in os.walk(os.path.join(TOP, folder)):
             for path in (os.path.join(within, name) for name in names):
                 with open(path, encoding="utf-8", errors="replace") as file:
@@ -319,7 +310,7 @@ ONE, NEITHER = (place_of({"src/lib.rt": BODIES}, it) for it in (TWO[0], HEAD))
 # What tools/test runs and tools/run does not, by its path.
 NOT_PARTS = {it.split()[0] for it in ALL.PARTS + ALL.AT_LAST} | {f"toolchain/{it}" for it in ALL.OVER_LIBRARIES}
 SAID = [
-    (naming_unproved(), MAY_NAME_IT), (NOT_PARTS - set(RUN.parts()), set()),
+    (naming_unproved(), MAY_NAME_IT), (NOT_PARTS - set(PARTS.parts()), set()),
     ([" ".join(it.split()) for it in TABLE_OF_OUTCOMES], LINES_OF_OUTCOMES),
     (ONE and switched(BODIES, [(ONE, 1, TWO[0]), (ONE, 10, TWO[1])]), BODIES.replace("{ 1 }", SWITCHES)), (NEITHER, None),
 ]  # fmt: skip
@@ -588,9 +579,9 @@ def require_mutants_read(room):
         with open(tried, "w", encoding="utf-8") as file:
             file.write(text)
         with contextlib.suppress(ValueError):
-            raise Wrong(f"{text!r} was read as {MUTANTS.read_mutant(tried)}")
+            raise Wrong(f"{text!r} was read as {mutants.read_mutant(tried)}")
     for file in glob.glob(os.path.join(TOP, "crates", "*", "must-fail", "*.edit")):
-        MUTANTS.read_mutant(file)
+        mutants.read_mutant(file)
 
 
 def checks_of(room):
@@ -620,7 +611,7 @@ def checks_of(room):
     yield Check("functions_at_the_machine", require_at_machine)
     yield Check("quick_names_what_it_leaves_out", require_all_parts_named)
     yield Check("first_look_is_compiled_anew", partial(require_compiled_anew, room))
-    yield from kept_trials.checks_of(MUTANTS.is_drawn, room)
+    yield from kept_trials.checks_of(mutants.is_drawn, room)
     yield from ended_commands.checks_of(room)
     yield from named_paths.checks_of()
     for name, text, wanted in ROWS_TO_RUN:
