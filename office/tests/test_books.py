@@ -4,22 +4,21 @@ import os
 import pwd
 import re
 import shutil
-import sqlite3
 import subprocess
 import tempfile
-import time
 from contextlib import ExitStack
 from pathlib import Path
+from typing import Any
 from xml.etree import ElementTree
 
 import pytest
-from bank_file import BRANCHES, OPENING, BankFile
-from bank_office import books, camt, ledger, statements
-from bank_office.copies import Copies, Copy, opened_copy
-from bank_office.languages import language_of
-from bank_office.reasons import Reason
-from bank_office.store import Refused
-from conftest import Office
+from office.tests.bank_file import BRANCHES, OPENING, BankFile
+from tespiorvu.office import books, camt, ledger, statements
+from tespiorvu.office.copies import Copies, Copy, opened_copy
+from tespiorvu.office.languages import from_kept, language_of
+from tespiorvu.office.reasons import Reason
+from tespiorvu.office.store import Refused
+from office.tests.conftest import INTEREST, Office
 from hypothesis import given, settings, strategies
 
 SCHEMA = Path(__file__).resolve().parent.parent / "schemas/camt.053.001.08.xsd"
@@ -36,6 +35,9 @@ STEPS = strategies.lists(
     ),
     max_size=30,
 )
+ENTERED: list[tuple[str, object, int]] = [
+    ("post", 101, 250), ("post", 201, -300), ("transfer", (101, 202), 100), ("correct", 0, 0)]  # fmt: skip
+NAMES = {"c": camt.NAMESPACE}
 
 
 def live(bank: BankFile, steps: list[tuple[str, object, int]]) -> None:
@@ -68,11 +70,8 @@ def require_true_day(copy: Copy, branch: int, day: int) -> list[ledger.Posting]:
     assert sum(it.cents for it in postings) == 0 and ledger.imbalance(postings) == []
     for name in ("vault", "drawer", "differences"):
         moved = sum(it.cents for it in postings if it.ledger.split()[0] == name)
-        due = {
-            "vault": book.after.vault - book.before.vault,
-            "drawer": book.after.drawers - book.before.drawers,
-            "differences": book.before.differences - book.after.differences,
-        }[name]
+        due = {"vault": book.after.vault - book.before.vault, "drawer": book.after.drawers - book.before.drawers,
+               "differences": book.before.differences - book.after.differences}[name]
         assert moved == due, name
     return postings
 
@@ -83,7 +82,6 @@ def test_random_days_agree_and_balance(steps: list[tuple[str, object, int]]) -> 
     with tempfile.TemporaryDirectory() as folder:
         bank = BankFile(Path(folder, "present"))
         live(bank, steps)
-        bank.close()
         with Copies(Path(folder)).present() as copy:
             days = books.days_of([copy], 1)
             postings = [it for day in days for it in require_true_day(copy, 1, day.day)]
@@ -98,22 +96,19 @@ def test_random_days_agree_and_balance(steps: list[tuple[str, object, int]]) -> 
 
 
 def test_a_row_that_is_changed_shows(tmp_path: Path) -> None:
-    for text, told in (
-        ("UPDATE entries SET delta = delta + 1 WHERE number = 1", "balance: "),
-        ("UPDATE lines SET amount = amount + 1 WHERE place = 0", "vault: "),
-        ("DELETE FROM entries WHERE number = 2", "entries: "),
-        ("UPDATE lines SET amount = amount + 1 WHERE number = 3 ", ""),
-    ):
+    for text, told in (("UPDATE entries SET delta = delta + 1 WHERE number = 1", "balance: "),
+                       ("UPDATE lines SET amount = amount + 1 WHERE place = 0", "vault: "),
+                       ("DELETE FROM entries WHERE number = 2", "entries: "),
+                       ("UPDATE lines SET amount = amount + 1 WHERE number = 3 ", "")):
         bank = BankFile(tmp_path / "present")
         bank.move(1, 0, 11, 5_000, 2)
         bank.post(1, 101, 700)
         bank.post(1, 102, 900)
         bank.close_day(1)
         bank.bank.execute(text)
-        bank.close()
         with Copies(tmp_path).present() as copy:
             book = books.day_book(copy, 1, 1)
-            assert any(it.startswith(told) for it in book.faults) if told else not book.faults
+            assert any(str(it).startswith(told) for it in book.faults) if told else not book.faults
             with pytest.raises(Refused):
                 ledger.postings_of(book)
         (tmp_path / "present").unlink()
@@ -123,10 +118,19 @@ def test_corrections_name_what_they_correct_and_by_whom(tmp_path: Path) -> None:
     bank = BankFile(tmp_path / "present")
     wrong = bank.post(1, 101, 12_000)
     bank.post(1, 101, -12_000, teller=12, undoes=wrong, user=8)
-    bank.close()
     with Copies(tmp_path).present() as copy:
         first, second = books.day_book(copy, 1, 1).entries
     assert (first.undone_by, first.undone_by_user, second.undoes, second.undoes_user) == (2, 8, 1, 7)
+
+
+def statement_of(folder: Path, steps: list[tuple[str, object, int]], *more: Any) -> str:
+    """The camt.053 of a closed day of these steps; more may be the language, and reasons."""
+    bank = BankFile(folder / "present")
+    live(bank, steps)
+    bank.close_day(1)
+    with Copies(folder).present() as copy:
+        book = books.day_book(copy, 1, 1, books.years_of([copy])[0])
+        return camt.statement_xml(book, "EUR", copy.made, "2026-11-29", *more)
 
 
 def validated(text: str) -> subprocess.CompletedProcess[str]:
@@ -136,51 +140,36 @@ def validated(text: str) -> subprocess.CompletedProcess[str]:
 
 @pytest.mark.skipif(not shutil.which("xmllint"), reason="xmllint (package libxml2-utils)")
 def test_camt_is_of_its_schema_and_adds_up(tmp_path: Path) -> None:
-    bank = BankFile(tmp_path / "present")
-    live(bank, [("post", 101, 250), ("post", 201, -300), ("transfer", (101, 202), 100), ("correct", 0, 0), ("off", 11, 40)])
-    bank.close_day(1)
-    bank.close()
-    with Copies(tmp_path).present() as copy:
-        text = camt.statement_xml(books.day_book(copy, 1, 1, books.years_of([copy])[0]), "EUR", copy.made, "2026-11-29")
+    text = statement_of(tmp_path, [*ENTERED, ("off", 11, 40)])
     assert (ran := validated(text)).returncode == 0, ran.stderr
-    names = {"c": camt.NAMESPACE}
     sides = {"CRDT": 1, "DBIT": -1}
 
     def signed(found: ElementTree.Element) -> int:
-        side, number = found.find("c:CdtDbtInd", names), found.find("c:Amt", names)
+        side, number = found.find("c:CdtDbtInd", NAMES), found.find("c:Amt", NAMES)
         assert side is not None and number is not None
         return sides[str(side.text)] * round(float(str(number.text)) * 100)
 
     root = ElementTree.fromstring(text)
     year = datetime.date.today().year
-    first = root.find(".//c:Ntry", names)
+    first = root.find(".//c:Ntry", NAMES)
     assert first is not None
-    assert [first.findtext(it, "", names) for it in ("c:NtryRef", "c:AcctSvcrRef", "c:BookgDt/c:Dt", "c:BkTxCd/c:Prtry/c:Cd")] == [
+    assert [first.findtext(it, "", NAMES) for it in ("c:NtryRef", "c:AcctSvcrRef", "c:BookgDt/c:Dt", "c:BkTxCd/c:Prtry/c:Cd")] == [
         f"{year}-1-1", f"{year}-1-1", datetime.date.today().isoformat(), "DEPOSIT"]  # fmt: skip
-    assert first.findtext(".//c:Dbtr/c:Pty/c:Nm", "", names) == "ACCOUNT 101", "who pays in is the other side of a credit"
-    assert first.findtext("c:AddtlNtryInf", "", names).startswith("deposit, account 101")
-    opening, closing = (signed(it) for it in root.iterfind(".//c:Bal", names))
-    assert opening + sum(signed(it) for it in root.iterfind(".//c:Ntry", names)) == closing
-    for old, new in (
-        ("<CdtDbtInd>CRDT", "<CdtDbtInd>PLUS"),
-        ('Ccy="EUR"', 'Ccy="euro"'),
-        ("<Ntry>", "<Ntry><X/>"),
-        ("<Id>BRANCH", f"<Id>{'x' * 40}"),
-    ):
+    assert first.findtext(".//c:Dbtr/c:Pty/c:Nm", "", NAMES) == "ACCOUNT 101", "who pays in is the other side of a credit"
+    assert first.findtext("c:AddtlNtryInf", "", NAMES).startswith("deposit, account 101")
+    opening, closing = (signed(it) for it in root.iterfind(".//c:Bal", NAMES))
+    assert opening + sum(signed(it) for it in root.iterfind(".//c:Ntry", NAMES)) == closing
+    for old, new in (("<CdtDbtInd>CRDT", "<CdtDbtInd>PLUS"), ('Ccy="EUR"', 'Ccy="euro"'), ("<Ntry>", "<Ntry><X/>"),
+                     ("<Id>BRANCH", f"<Id>{'x' * 40}")):
         assert validated(text.replace(old, new, 1)).returncode != 0, old
 
 
 def test_camt_is_in_the_readers_language_and_a_run_has_its_name_and_value_date(tmp_path: Path) -> None:
-    bank = BankFile(tmp_path / "present")
-    live(bank, [("transfer", (900, 101), 77), ("correct", 0, 0)])
-    bank.close_day(1)
-    bank.close()
-    reason = Reason("interest", "2026-02-01", "2026-02-28", "interest of 0.77 at 1.25 %")
-    with Copies(tmp_path).present() as copy:
-        text = camt.statement_xml(books.day_book(copy, 1, 1, "2026"), "EUR", copy.made, "2026-11-29", language_of("de"), {("present", 1, 2): reason})
-    names, today = {"c": camt.NAMESPACE}, datetime.date.today().isoformat()
+    reason = Reason("interest", "2026-02-01", "2026-02-28", from_kept(INTEREST))
+    text = statement_of(tmp_path, [("transfer", (900, 101), 77)], language_of("de"), {("present", 1, 2): reason})
+    today = datetime.date.today().isoformat()
     wanted = ("c:BookgDt/c:Dt", "c:ValDt/c:Dt", "c:AddtlNtryInf", ".//c:AddtlTxInf", ".//c:Pty/c:Nm", "c:BkTxCd/c:Prtry/c:Cd")
-    found = [[it.findtext(name, "", names) for name in wanted] for it in ElementTree.fromstring(text).iterfind(".//c:Ntry", names)]
+    found = [[it.findtext(name, "", NAMES) for name in wanted] for it in ElementTree.fromstring(text).iterfind(".//c:Ntry", NAMES)]
     paid = "Zinsen 0,77 zu 1,25\u00a0%, Konto 101, Schalter 11, Benutzer 7"
     assert found[0] == [today, today, *["Umbuchung, Konto 900, Schalter 11, Benutzer 7"] * 2, "KONTO 900", "TRANSFER"]
     assert found[1] == [today, "2026-02-28", paid, paid, "KONTO 101", "TRANSFER"]
@@ -190,14 +179,7 @@ def test_camt_is_in_the_readers_language_and_a_run_has_its_name_and_value_date(t
 
 @pytest.mark.skipif(not shutil.which("aqbanking-cli"), reason="there is no aqbanking-cli (package aqbanking-tools)")
 def test_an_importer_has_date_and_text_of_all_entries(tmp_path: Path) -> None:
-    bank = BankFile(tmp_path / "present")
-    live(bank, [("post", 101, 250), ("post", 201, -300), ("transfer", (101, 202), 100), ("correct", 0, 0)])
-    bank.close_day(1)
-    entries = bank.one("SELECT count(*) FROM entries WHERE branch = 1")
-    bank.close()
-    with Copies(tmp_path).present() as copy:
-        text = camt.statement_xml(books.day_book(copy, 1, 1, "2026"), "EUR", copy.made, "2026-11-29")
-    (tmp_path / "day.xml").write_text(text, encoding="utf-8")
+    (tmp_path / "day.xml").write_text(statement_of(tmp_path, ENTERED), encoding="utf-8")
     given = ["--importer=xml", "--profile=camt_053_001_04", "-f", str(tmp_path / "day.xml"), "-c", str(tmp_path / "found")]
     left = Path(pwd.getpwuid(os.getuid()).pw_dir, ".aqbanking")  # which it makes whatever HOME is
     had = left.exists()
@@ -208,22 +190,18 @@ def test_an_importer_has_date_and_text_of_all_entries(tmp_path: Path) -> None:
             shutil.rmtree(left, ignore_errors=True)
     found = (tmp_path / "found").read_text(encoding="utf-8").split("transaction {")[1:]
     today = datetime.date.today().strftime("%Y%m%d")
-    assert len(found) == entries and all(f'char date="{today}"' in it and re.search('purpose="(deposit|withdrawal|transfer|correction), account', it) for it in found)
+    assert len(found) == 5 and all(f'char date="{today}"' in it and re.search('purpose="(deposit|withdrawal|transfer|correction), account', it) for it in found)
 
 
-def two_years(office: Office) -> tuple[int, int]:
-    """A bank of two years; a moment in each."""
+def two_years(office: Office) -> None:
+    """A bank of two years."""
     old = office.bank("2025")
-    old.moment = int(time.mktime((2025, 6, 1, 12, 0, 0, 0, 0, -1)))
+    old.at(2025, 6, 1)
     old.post(1, 101, 1_000)
     old.transfer(1, 101, 102, 300)
-    new = office.bank(openings=old.balances())
-    new.moment = int(time.mktime((2026, 3, 1, 12, 0, 0, 0, 0, -1)))
+    new = office.bank(before=old)
+    new.at(2026, 3, 1)
     new.post(1, 101, -200)
-    moments = old.moment, new.moment
-    old.close()
-    new.close()
-    return moments
 
 
 def test_a_statement_goes_over_two_years(office: Office) -> None:
@@ -231,47 +209,36 @@ def test_a_statement_goes_over_two_years(office: Office) -> None:
     copies = Copies(office.copies)
     found = statements.statement(copies, 101, datetime.date(2025, 6, 1), datetime.date(2026, 3, 31))
     assert (found.opening, [(it.copy, it.entry.delta) for it in found.lines], found.closing) == (
-        OPENING,
-        [("2025", 1_000), ("2025", -300), ("present", -200)],
-        OPENING + 500,
-    )
+        OPENING, [("2025", 1_000), ("2025", -300), ("present", -200)], OPENING + 500)
     assert found.lines[1].entry.other == 102
     middle = statements.statement(copies, 101, datetime.date(2025, 6, 2), datetime.date(2026, 2, 28))
     assert (middle.opening, middle.lines, middle.closing) == (OPENING + 700, [], OPENING + 700)
-    for first, last, why in (
-        (datetime.date(2025, 5, 31), datetime.date(2025, 12, 31), "first day is 2025-06-01"),
-        (datetime.date(2026, 1, 1), datetime.date.today(), "is not over by the newest copy"),
-        (datetime.date(2026, 3, 2), datetime.date(2026, 3, 1), "is after"),
-    ):
+    for first, last, why in ((datetime.date(2025, 5, 31), datetime.date(2025, 12, 31), "first day is 2025-06-01"),
+                             (datetime.date(2026, 1, 1), datetime.date.today(), "is not over by the newest copy"),
+                             (datetime.date(2026, 3, 2), datetime.date(2026, 3, 1), "is after")):
         with pytest.raises(Refused, match=why):
             statements.statement(copies, 101, first, last)
 
 
 def test_a_bank_without_an_entry_has_no_period(office: Office) -> None:
-    office.bank().close()
+    office.bank()
     with pytest.raises(Refused, match="no entry and no cash line yet"):
         statements.statement(Copies(office.copies), 101, datetime.date(2026, 1, 1), datetime.date(2026, 1, 31))
 
 
-@pytest.mark.parametrize(
-    "name, text, why",
-    [
-        ("present", "UPDATE accounts SET opening = opening + 1 WHERE account = 101", "begins present"),
-        ("years/2025", "UPDATE entries SET balance_after = 7 WHERE account = 101 AND turn = 2", "turn 2"),
-    ],
-)
+@pytest.mark.parametrize("name, text, why", [
+    ("present", "UPDATE accounts SET opening = opening + 1 WHERE account = 101", "begins present"),
+    ("years/2025", "UPDATE entries SET balance_after = 7 WHERE account = 101 AND turn = 2", "turn 2"),
+])  # fmt: skip
 def test_a_chain_that_breaks_is_refused(office: Office, name: str, text: str, why: str) -> None:
     two_years(office)
-
-    with sqlite3.connect(office.copies / name) as found:
-        found.execute(text)
-    found.close()
+    office.change(text, name)
     with pytest.raises(Refused, match=why):
         statements.statement(Copies(office.copies), 101, datetime.date(2025, 6, 1), datetime.date(2026, 3, 31))
 
 
 def test_a_copy_with_a_log_is_refused_and_none_is_written(office: Office) -> None:
-    office.bank().close()
+    office.bank()
     file = office.copies / "present"
     before = file.read_bytes()
     with opened_copy(file, "present") as copy, pytest.raises(Exception, match="readonly"):
@@ -286,9 +253,8 @@ def test_a_copy_with_a_log_is_refused_and_none_is_written(office: Office) -> Non
 def test_a_document_has_the_year_of_its_file(office: Office) -> None:
     for name, moment in (("2025", (2025, 6, 2)), ("2026", (2025, 11, 3)), ("present", (2026, 6, 2))):
         bank = office.bank(name)
-        bank.moment = int(datetime.datetime(*moment, 12).timestamp())
+        bank.at(*moment)
         bank.post(1, 101, 700)
-        bank.close()
     with ExitStack() as stack:
         copies = [stack.enter_context(it) for it in Copies(office.copies).all()]
         assert books.years_of(copies) == ["2025", "2025b", "2026"]
@@ -304,7 +270,6 @@ def test_a_posting_at_another_branch_has_that_branchs_day(office: Office) -> Non
         bank.post(2, 201, 100, teller=21)
     bank.moment = start + 5_400
     bank.post(1, 201, 700)
-    bank.close()
     with Copies(office.copies).present() as copy:
         found = ledger.postings_of(books.day_book(copy, 1, 1))
     assert {(it.branch, it.day) for it in found} == {(1, 1), (2, 2)}
@@ -315,13 +280,7 @@ def test_days_of_a_closed_year_are_those_of_its_file(office: Office) -> None:
     old.post(1, 101, 1_000)
     old.close_day(1)
     old.close_day(2)
-    new = office.bank(openings=old.balances())
-    new.bank.execute("UPDATE branches SET day = 2")
-    for row in old.bank.execute("SELECT * FROM proofs").fetchall():
-        new.bank.execute("INSERT INTO proofs VALUES (?, ?, ?, ?, ?)", row)
-    new.post(1, 101, -200)
-    old.close()
-    new.close()
+    office.bank(before=old).post(1, 101, -200)
     page = office.ask("sue", "/office/days").text
     assert page.count("Day 1<") == 2 and page.count("Day 2<") == 2
     assert "10.00" in office.ask("sue", "/office/days/1/1").text and "-2.00" in office.ask("sue", "/office/days/1/2").text

@@ -5,26 +5,22 @@ from contextlib import closing
 from pathlib import Path
 
 import pytest
-from bank_office import chain, forgetting, register, sheets
-from bank_office.commands import main
-from bank_office.store import Refused, now, opened
-from conftest import Office
+from tespiorvu.office import chain, forgetting, register
+from tespiorvu.office.register import Holder, Holding
+from tespiorvu.office.store import Refused, now, opened
+from office.tests.conftest import Office, earlier_register
 
-EARLIER = Path(__file__).with_name("register-0.sql")
 YEAR = 366 * 86_400
-HEADING = "holder,name,address,document,note,since\n"
 SECRETS = ("Ann One", "Secret Street", "Passport 7", "owes much", "Ann Two")
 
 
 @pytest.fixture(autouse=True)
 def holders(office: Office) -> None:
     """Ann, whose account is no longer hers, and Bea, whose is; a bank in which nobody is suspended."""
-    office.bank().close()
-    with office.opened() as found:
-        sheets.imported(found, "kim", "holders", f"{HEADING}1,Ann One,Secret Street,Passport 7,owes much,2020-01-31\n2,Bea,,,,\n".encode())
-        sheets.imported(found, "kim", "holdings", b"account,holder,may\n101,1,owns\n102,2,owns\n")
-        sheets.imported(found, "lee", "holders", f"{HEADING}1,Ann Two,,,,\n".encode())
-        sheets.imported(found, "lee", "holdings", b"account,holder,may\n101,1,none\n")
+    office.bank()
+    office.keep(Holder(1, "Ann One", "Secret Street", "Passport 7", "owes much", "2020-01-31"), Holder(2, "Bea"))
+    office.keep(Holding(101, 1, "owns"), Holding(102, 2, "owns"))
+    office.keep(Holder(1, "Ann Two"), Holding(101, 1, "none"), badge="lee")
 
 
 def faults(office: Office) -> list[str]:
@@ -35,9 +31,7 @@ def faults(office: Office) -> list[str]:
 
 def saved(office: Office, capsys: pytest.CaptureFixture[str]) -> tuple[int, str]:
     """The status of the nightly copy, and what it complains of."""
-    settings = office.settings.file.with_name("settings.toml")
-    settings.write_text(f'file = "{office.settings.file}"\ncopies = "{office.copies}"\nkeepers = ["kim"]\napprovers = ["sue"]\n')
-    return main(["--settings", str(settings), "save"]), capsys.readouterr().err
+    return office.command("save"), capsys.readouterr().err
 
 
 def rewrite(office: Office, *statements: str) -> None:
@@ -49,18 +43,15 @@ def rewrite(office: Office, *statements: str) -> None:
             found.execute(it)
 
 
-@pytest.mark.parametrize(
-    "statement, fault",
-    [
-        ("DELETE FROM changes WHERE change = 3", "change 4 does not follow from the one before"),
-        ("DELETE FROM changes WHERE change = 1", "change 2 does not follow from the one before"),
-        ("UPDATE changes SET badge = 'tom' WHERE change = 5", "change 5 does not follow from the one before"),
-        ("UPDATE changes SET moment = moment + 1 WHERE change = 6", "change 6 does not follow from the one before"),
-        ("UPDATE changes SET new = '{}' WHERE change = 2", "change 2 has other texts than it was made with"),
-        ("UPDATE changes SET old = NULL WHERE change = 5", "change 5 has other texts than it was made with"),
-        ("UPDATE changes SET digest = '00' WHERE change = 6", "change 6 does not follow from the one before"),
-    ],
-)
+@pytest.mark.parametrize("statement, fault", [
+    ("DELETE FROM changes WHERE change = 3", "change 4 does not follow from the one before"),
+    ("DELETE FROM changes WHERE change = 1", "change 2 does not follow from the one before"),
+    ("UPDATE changes SET badge = 'tom' WHERE change = 5", "change 5 does not follow from the one before"),
+    ("UPDATE changes SET moment = moment + 1 WHERE change = 6", "change 6 does not follow from the one before"),
+    ("UPDATE changes SET new = '{}' WHERE change = 2", "change 2 has other texts than it was made with"),
+    ("UPDATE changes SET old = NULL WHERE change = 5", "change 5 has other texts than it was made with"),
+    ("UPDATE changes SET digest = '00' WHERE change = 6", "change 6 does not follow from the one before"),
+])  # fmt: skip
 def test_a_change_that_is_altered_or_taken_away_shows(office: Office, statement: str, fault: str) -> None:
     assert faults(office) == []
     rewrite(office, statement)
@@ -102,7 +93,7 @@ def test_a_holder_is_forgotten_once_the_term_is_over(office: Office, monkeypatch
         assert [it.holder for it in forgetting.due(found, 10)] == [1]
         forgetting.forget(found, "(command)", 1, 10)
         assert forgetting.due(found, 10) == []
-        assert register.holder_of(found, 1) == register.Holder(1, "Holder 1")
+        assert register.holder_of(found, 1) == Holder(1, "Holder 1")
         assert list(register.search(found, "ann")) == []
         assert list(chain.faults_of(found)) == []
         kept = [json.loads(it["old"] or it["new"]) for it in found.execute("SELECT * FROM changes WHERE what = 'holding' ORDER BY change")]
@@ -114,18 +105,15 @@ def test_a_holder_is_forgotten_once_the_term_is_over(office: Office, monkeypatch
 
 
 def test_the_command_forgets_and_lists(office: Office, capsys: pytest.CaptureFixture[str]) -> None:
-    saved(office, capsys)
-    settings = office.settings.file.with_name("settings.toml")
-    given = ["--settings", str(settings), "forget"]
-    assert (main(given), main([*given, "1"]), capsys.readouterr().err.split(" until ")[0]) == (0, 1, "bank-office: Holder 1 is kept")
-    settings.write_text("years_kept = 0\n" + settings.read_text())
-    assert (main(given), capsys.readouterr().out) == (0, "1 Ann Two\n")
-    assert (main([*given, "1"]), main(given), capsys.readouterr().out) == (0, 0, "")
+    given, none = [office.command("forget"), office.command("forget", "1")], "years_kept = 0\n"
+    assert (given, capsys.readouterr().err.split(" until ")[0]) == ([0, 1], "bank-office: Holder 1 is kept")
+    assert (office.command("forget", more=none), capsys.readouterr().out) == (0, "1 Ann Two\n")
+    given = [office.command("forget", "1", more=none), office.command("forget", more=none)]
+    assert (given, capsys.readouterr().out) == ([0, 0], "")
 
 
 def test_changes_of_an_earlier_register_become_a_chain(tmp_path: Path) -> None:
-    with closing(sqlite3.connect(tmp_path / "earlier")) as found, found:
-        found.executescript(EARLIER.read_text(encoding="utf-8"))
+    with earlier_register(tmp_path / "earlier") as found:
         rows = [(5, "kim", "holder", "1", None, "{}"), (6, "kim", "holder", "1", "{}", '{"a": 1}'), (7, "lee", "run", "1", None, "{}")]
         found.executemany("INSERT INTO changes (moment, badge, what, row, old, new) VALUES (?, ?, ?, ?, ?, ?)", rows)
     with opened(tmp_path / "earlier") as found:
@@ -142,9 +130,8 @@ def columns_of(found: sqlite3.Connection) -> dict[str, set[str]]:
 
 
 def test_an_earlier_register_has_the_tables_of_a_new_one(tmp_path: Path) -> None:
-    earlier = tmp_path / "earlier"
-    with closing(sqlite3.connect(earlier)) as found:
-        found.executescript(EARLIER.read_text(encoding="utf-8"))
-    with opened(earlier) as found, opened(tmp_path / "new") as new:
+    with earlier_register(tmp_path / "earlier"):
+        pass
+    with opened(tmp_path / "earlier") as found, opened(tmp_path / "new") as new:
         brought_up, made = columns_of(found), columns_of(new)
         assert {name: brought_up[name] for name in made} == made

@@ -7,15 +7,14 @@ from dataclasses import replace
 from pathlib import Path
 
 import pytest
-from bank_office import apart, cards, controls, reviews
-from bank_office.commands import main
-from bank_office.letterhead import Letterhead
-from bank_office.policy import PROCEDURES
-from bank_office.settings import SettingsError, read_settings
-from bank_office.store import Refused
-from bank_office.web_runs import make_runs_app
-from conftest import EVERYTHING, Office
-from policy_bank import CARL, LIMIT, TESS, PolicyBank
+from tespiorvu.office import apart, cards, controls, reviews, runs
+from tespiorvu.office.letterhead import Letterhead
+from tespiorvu.procedures import NUMBERS
+from tespiorvu.office.settings import read_settings
+from tespiorvu.office.store import Refused
+from tespiorvu.office.web_runs import make_runs_app
+from office.tests.conftest import EVERYTHING, Office
+from office.tests.policy_bank import CARL, LIMIT, TESS, PolicyBank, below_heading
 
 CARDS = "badge,serial,valid,first,last\ntess,0A,1,1700000000,1700000900\ntom,0B,1,0,0\nsue,0C,0,5,6\n"
 
@@ -45,30 +44,18 @@ def bank(office: Office) -> PolicyBank:
 def live_day(bank: PolicyBank, chance: random.Random, is_odd: bool) -> None:
     """A day of the branch."""
     for _ in range(6):
-        post(bank, round(10 ** chance.uniform(2, 4.5)) + chance.randrange(1, 99), chance.choice([101, 102, 103]), chance.choice([TESS, 8]))
+        bank.post(round(10 ** chance.uniform(2, 4.5)) + chance.randrange(1, 99), chance.choice([101, 102, 103]), chance.choice([TESS, 8]))
     if is_odd:
         wrong = bank.post(777)
-        bank.clock += 60
-        bank.bank.moment = bank.clock
+        bank.later()
         note(bank, "entry", bank.bank.post(1, 101, -777, undoes=wrong, user=8), "reason")
-        bank.bank.line(1, 11, -5, 5)
-        note(bank, "line", bank.bank.one("SELECT max(number) FROM lines"), "difference")
+        note(bank, "line", bank.bank.line(1, 11, -5, 5), "difference")
     bank.bank.close_day(1)
-
-
-def post(bank: PolicyBank, amount: int, account: int = 101, user: int = TESS) -> int:
-    """A post, a minute later."""
-    bank.clock += 60
-    bank.bank.moment = bank.clock
-    return bank.bank.post(1, account, amount, user=user)
 
 
 def note(bank: PolicyBank, row: str, number: int, kind: str) -> None:
     """A note on a row of the open day."""
-    day = bank.bank.one("SELECT day FROM branches WHERE branch = 1")
-    with bank.office.opened() as found:
-        found.execute("INSERT INTO notes (moment, badge, branch, day, row, number, kind, text) VALUES (1, 'tess', 1, ?, ?, ?, ?, 'why')",
-                      (day, row, number, kind))  # fmt: skip
+    bank.office.note(row, number, kind, day=bank.bank.of_branch("day", 1))
 
 
 def found_by(bank: PolicyBank) -> dict[str, int]:
@@ -76,39 +63,29 @@ def found_by(bank: PolicyBank) -> dict[str, int]:
     return {it.name: len(it.rows) for it in controls.controls_of(bank.office.settings) if it.rows}
 
 
-def release(bank: PolicyBank, user: int, giver: int) -> None:
-    """A release that was used for nothing."""
-    number = bank.bank.one("SELECT coalesce(max(number), 0) + 1 FROM releases WHERE user_no = ?", user)
-    bank.bank.bank.execute("INSERT INTO releases VALUES (?, ?, ?, 1, 1, 1, 101, 11, 1, 5, 0, 0, 0, 0, 0)", (user, number, giver))
-
-
 def late_correction(bank: PolicyBank) -> None:
     """An entry is corrected two days later."""
-    wrong = post(bank, 400)
-    bank.clock += 2 * 86_400
-    bank.bank.moment = bank.clock
+    wrong = bank.post(400)
+    bank.later(2 * 86_400)
     note(bank, "entry", bank.bank.post(1, 101, -400, undoes=wrong, user=8), "reason")
 
 
 def three_corrections(bank: PolicyBank) -> None:
     """A colleague corrects three entries of one user on a day."""
     for it in range(3):
-        note(bank, "entry", bank.bank.post(1, 101, -5, undoes=post(bank, 5), user=8), "reason")
+        note(bank, "entry", bank.bank.post(1, 101, -5, undoes=bank.post(5), user=8), "reason")
 
 
 def woken(bank: PolicyBank) -> None:
     """An account that had no entry for half a year is drawn on."""
     bank.bank.bank.execute("UPDATE entries SET moment = moment - 200 * 86400 WHERE number = 1")
     bank.bank.bank.execute("DELETE FROM entries WHERE account = 900")
-    bank.clock += 60
-    bank.bank.moment = bank.clock
-    bank.bank.post(1, 900, -5)
+    bank.post(-5, 900)
 
 
 def differences(bank: PolicyBank) -> None:
     """A drawer lacks a hundred."""
-    bank.bank.line(1, 11, -10_000, 5)
-    note(bank, "line", bank.bank.one("SELECT max(number) FROM lines"), "difference")
+    note(bank, "line", bank.bank.line(1, 11, -10_000, 5), "difference")
 
 
 def posts(*amounts: int) -> Callable[[PolicyBank], None]:
@@ -116,7 +93,7 @@ def posts(*amounts: int) -> Callable[[PolicyBank], None]:
 
     def plant(bank: PolicyBank) -> None:
         for it in amounts:
-            post(bank, it)
+            bank.post(it)
 
     return plant
 
@@ -126,18 +103,15 @@ def round_sums(bank: PolicyBank) -> None:
     bank.bank.bank.execute("UPDATE entries SET delta = 20000 WHERE user_no = 7 AND form = 1")
 
 
-def clock_back(bank: PolicyBank) -> None:
-    """The clock was set back by an hour between two entries."""
-    post(bank, 5)
-    bank.clock -= 3600
-    post(bank, 5)
+def two_posts(seconds: int) -> Callable[[PolicyBank], None]:
+    """Two posts of one day with so much time between them by the clock, which may be set back."""
 
+    def plant(bank: PolicyBank) -> None:
+        bank.post(5)
+        bank.clock += seconds
+        bank.post(5)
 
-def long_day(bank: PolicyBank) -> None:
-    """A day stays open for two."""
-    post(bank, 5)
-    bank.clock += 2 * 86_400
-    post(bank, 5)
+    return plant
 
 
 def in_one_hand(bank: PolicyBank) -> None:
@@ -148,7 +122,7 @@ def in_one_hand(bank: PolicyBank) -> None:
 
 def no_reason(bank: PolicyBank) -> None:
     """A correction and a difference without a reason, on a day that is closed."""
-    bank.bank.post(1, 101, -5, undoes=post(bank, 5), user=8)
+    bank.bank.post(1, 101, -5, undoes=bank.post(5), user=8)
     bank.bank.line(1, 11, -5, 5)
     bank.bank.close_day(1)
 
@@ -172,21 +146,17 @@ def put_back(bank: PolicyBank) -> None:
 
 def mutual(bank: PolicyBank) -> None:
     """Two supervisors release for each other."""
-    release(bank, 9, 10)
-    release(bank, 10, 9)
+    for user, giver in ((9, 10), (10, 9)):
+        bank.bank.put("releases", (user, 1, giver, 1, 1, 1, 101, 11, 1, 5, 0, 0, 0, 0, 0))
 
 
 PLANTED: list[tuple[Callable[[PolicyBank], None], dict[str, int]]] = [
     (posts(LIMIT + 1), {"above-limit": 1}), (late_correction, {"late-corrections": 1, "long-days": 1}), (three_corrections, {"correction-pairs": 1}),
     (woken, {"woken": 1, "above-limit": 1, "long-days": 1}), (posts(95_000, 99_000, LIMIT), {"structuring": 1}), (round_sums, {"round-sums": 1}),
     (differences, {"differences": 1}), (posts(*[50_017] * 200), {"first-digits": 1}), (posts(*[60_000, -60_000] * 5), {"in-and-out": 1}),
-    (mutual, {"mutual-releases": 1}), (clock_back, {"clock-back": 1}), (long_day, {"long-days": 1}), (in_one_hand, {"in-one-hand": 3}),
-    (gap, {"policy-log": 1}), (put_back, {"above-limit": 1, "put-back": 2}), (no_reason, {"no-reason": 2}), (second_card, {"several-cards": 1})]  # fmt: skip
-
-
-def below_heading(page: str) -> str:
-    """What a page has below its heading; above it stands that the copy is old, as those of these tests are."""
-    return page.partition("<h1>")[2]
+    (mutual, {"mutual-releases": 1}), (two_posts(-3600), {"clock-back": 1}), (two_posts(2 * 86_400), {"long-days": 1}),
+    (in_one_hand, {"in-one-hand": 3}), (gap, {"policy-log": 1}), (put_back, {"above-limit": 1, "put-back": 2}),
+    (no_reason, {"no-reason": 2}), (second_card, {"several-cards": 1})]  # fmt: skip
 
 
 def test_an_honest_month_names_nothing(bank: PolicyBank) -> None:
@@ -212,23 +182,14 @@ def test_the_file_of_queries_is_read_by_sqlite_itself(bank: PolicyBank) -> None:
     assert re.findall(r"^7 +U +(\S+) +release", ran.stdout, re.MULTILINE) == ["correct", "post", "transfer"]
 
 
-def settings_file(bank: PolicyBank) -> Path:
-    """A file of the bank's settings."""
-    it = bank.office.settings
-    file = it.file.with_name("settings.toml")
-    file.write_text(f'file = "{it.file}"\ncopies = "{it.copies}"\nruns = "{it.runs}"\ntrail = "{it.trail}"\nkeepers = ["kim"]\napprovers = ["sue"]\n')
-    return file
-
-
 def test_the_command_has_a_status(bank: PolicyBank, capsys: pytest.CaptureFixture[str]) -> None:
-    file = settings_file(bank)
-    assert main(["--settings", str(file), "controls"]) == 0
+    assert bank.office.command("controls") == 0
     assert "15 put-back: 0\n" in capsys.readouterr().out
     put_back(bank)
-    assert main(["--settings", str(file), "controls"]) == 1
+    assert bank.office.command("controls") == 1
     out = capsys.readouterr().out
     assert "15 put-back: 2, RED\n" in out and "amount 9,000.00" in out and "limit today 1,000.00" in out
-    assert main(["--settings", str(file), "controls", "1999"]) == 1
+    assert bank.office.command("controls", "1999") == 1
 
 
 def test_pairs_are_by_settings(bank: PolicyBank) -> None:
@@ -239,24 +200,22 @@ def test_pairs_are_by_settings(bank: PolicyBank) -> None:
 
 
 def test_the_pairs_of_the_queries_are_those_of_the_settings_that_are_installed() -> None:
-    installed = read_settings(controls.QUERIES.parents[1] / "settings.toml").apart
-    assert [it for it in installed if set(it) <= set(PROCEDURES)] == list(controls.default_pairs())
+    installed = read_settings(Path(__file__).resolve().parents[1] / "settings.toml").apart
+    assert [it for it in installed if set(it) <= set(NUMBERS)] == list(controls.default_pairs())
 
 
 def test_runs_do_not_start_with_an_approver_who_has_both_of_a_pair(bank: PolicyBank) -> None:
     honest = replace(bank.office.settings, approvers=frozenset({"sue", "sam"}), apart=(("approver", "certifier"), ("transfer", "release")))
     make_runs_app(honest)
-    with pytest.raises(SettingsError, match="carl approves runs, and has approver and certifier"):
+    with pytest.raises(Refused, match="carl approves runs, and has approver and certifier"):
         make_runs_app(replace(honest, approvers=frozenset({"sue", "carl"})))
-    bank.bank.grant(9, [PROCEDURES["transfer"]], EVERYTHING)
-    with pytest.raises(SettingsError, match="sue approves runs, and has transfer and release"):
+    bank.bank.grant(9, [NUMBERS["transfer"]], EVERYTHING)
+    with pytest.raises(Refused, match="sue approves runs, and has transfer and release"):
         make_runs_app(honest)
-    assert apart.fault_of(replace(honest, apart=()), honest.approvers) == ""
+    apart.require_apart(replace(honest, apart=()), honest.approvers)
 
 
 def test_an_approver_who_became_a_certifier_approves_nothing(bank: PolicyBank) -> None:
-    from bank_office import runs
-
     settings = replace(bank.office.settings, apart=(("approver", "certifier"),))
     with bank.office.opened_runs() as found, pytest.raises(Refused, match="carl approves runs"):
         runs.approve(found, settings, "carl", CARL, 1)
@@ -277,16 +236,14 @@ def test_a_review_sheet_has_all_of_a_person(bank: PolicyBank) -> None:
     assert "approver" in carl and "Certifies: accounts" in carl
 
 
-def test_review_sheets_are_printed_a_page_for_each_person(bank: PolicyBank, capsysbinary: pytest.CaptureFixture[bytes]) -> None:
+def test_review_sheets_are_a_page_for_each_person_in_the_letterheads_language(
+    bank: PolicyBank, capsysbinary: pytest.CaptureFixture[bytes]
+) -> None:
     second_card(bank)
-    assert len(reviews.document_of(bank.office.settings).pages) == 7
-    assert main(["--settings", str(settings_file(bank)), "reviews"]) == 0
+    document = reviews.document_of(replace(bank.office.settings, letterhead=Letterhead(language="de")))
+    assert (len(document.pages), document.metadata.title) == (7, "Überprüfung der Rechte")
+    assert bank.office.command("reviews") == 0
     assert capsysbinary.readouterr().out.startswith(b"%PDF-")
-
-
-def test_review_sheets_are_in_the_language_of_the_letterhead(bank: PolicyBank) -> None:
-    settings = replace(bank.office.settings, letterhead=Letterhead(language="de"))
-    assert reviews.document_of(settings).metadata.title == "Überprüfung der Rechte"
 
 
 def test_a_control_is_in_the_browsers_language(bank: PolicyBank) -> None:

@@ -2,14 +2,10 @@
 from typing import Any
 
 import pytest
-from bank_office import sheets
-from conftest import EVERYTHING, Office
+from tespiorvu.office.register import Holder, Holding
+from office.tests.conftest import EVERYTHING, Office
 
 NEW: dict[str, Any] = {"account": 150, "name": "Jo Néw", "address": "Lane 1\nTown", "born": "1961-12-31", "document": "P 77"}
-HOLDERS = b"""holder,name,address,document,note,since,born,language,warning,proposer
-1,Ann One,Secret Street,P 1,For keepers,,1950-01-31,de,ESTATE: ask first,
-2,Ann One,Other Street,,,,1990-01-31,,,
-"""
 
 
 @pytest.fixture(autouse=True)
@@ -20,12 +16,9 @@ def bank(office: Office) -> None:
     for user in (7, 8, 9):
         bank.grant(user, [7], EVERYTHING, 0)
     bank.grant(11, [10], EVERYTHING, 0)
-    bank.close()
-    with open(office.copies / "badges.csv", "a") as file:
-        file.write("cai,11\n")
-    with office.opened() as found:
-        sheets.imported(found, "kim", "holders", HOLDERS)
-        sheets.imported(found, "kim", "holdings", b"account,holder,may\n101,1,owns\n102,2,owns\n101,2,acts\n201,2,owns\n")
+    warned = Holder(1, "Ann One", "Secret Street", "P 1", "For keepers", "", "1950-01-31", "de", "ESTATE: ask first")
+    office.keep(warned, Holder(2, "Ann One", "Other Street", born="1990-01-31"))
+    office.keep(Holding(101, 1, "owns"), Holding(102, 2, "owns"), Holding(101, 2, "acts"), Holding(201, 2, "owns"))
 
 
 def proposed(office: Office, badge: str = "tess", **changed: Any) -> Any:
@@ -56,8 +49,7 @@ def test_namesakes_are_told_apart_and_all_accounts_of_one_are_shown(office: Offi
     of_102 = office.ask("tess", "/office/api/accounts/102/customers").json["holders"]
     assert [[it["account"] for it in one["accounts"]] for one in of_102] == [[101, 102]]
     assert [it["account"] for it in office.ask("sue", "/office/api/accounts/102/customers").json["holders"][0]["accounts"]] == [
-        101, 102, 201,
-    ]  # fmt: skip
+        101, 102, 201]  # fmt: skip
     assert office.ask("tess", "/office/api/accounts/201/customers").status_code == 403
 
 
@@ -81,9 +73,8 @@ def test_a_new_customer_bears_a_mark_until_a_second_person_accepts(office: Offic
 
 
 def test_nobody_accepts_their_own_proposal_also_not_by_another_badge(office: Office) -> None:
-    with office.opened() as found:
-        sheets.imported(found, "kim", "holders", HOLDERS + b"7,Own One,,,,,,,,sam\n8,Keeper's,,,,,,,,kim\n")
-        sheets.imported(found, "kim", "holdings", b"account,holder,may\n103,7,owns\n151,8,owns\n")
+    office.keep(Holder(7, "Own One", proposer="sam"), Holder(8, "Keeper's", proposer="kim"))
+    office.keep(Holding(103, 7, "owns"), Holding(151, 8, "owns"))
     assert [office.api(badge, "customers/7/accept", {}).status_code for badge in ("sam", "sam2", "kim")] == [403, 403, 200]
     assert [office.form("kim", "/office/holders/8/accept").status_code, office.api("sue", "customers/8/accept", {}).status_code] == [403, 200]
 

@@ -1,12 +1,5 @@
 """The day book shows what was written of entries and cash lines, and lists corrections and differences without a reason."""
-from conftest import Office
-
-
-def note(office: Office, row: str, number: int, kind: str, text: str) -> None:
-    """A note on a row of the first day of branch 1."""
-    with office.opened() as found:
-        found.execute("INSERT INTO notes (moment, badge, branch, day, row, number, kind, text) VALUES (1, 'tess', 1, 1, ?, ?, ?, ?)",
-                      (row, number, kind, text))  # fmt: skip
+from office.tests.conftest import Office
 
 
 def test_the_day_book_shows_notes_and_what_lacks_a_reason(office: Office) -> None:
@@ -16,20 +9,18 @@ def test_the_day_book_shows_notes_and_what_lacks_a_reason(office: Office) -> Non
     leg = bank.transfer(1, 101, 102, 5)
     bank.entry(1, 101, 11, 5, 3, partner=leg + 3, undoes=leg)
     bank.entry(1, 102, 11, -5, 3, partner=leg + 2, undoes=leg + 1)
-    bank.line(1, 11, -3, 5)
+    line = bank.line(1, 11, -3, 5)
     bank.line(1, 12, 0, 5)
-    line = bank.one("SELECT min(number) FROM lines WHERE form = 5")
-    bank.close()
     page = office.ask("sue", "/office/days/1/1").text
     assert f"Without a reason: correction {fixed}, correction {leg + 2}, difference {line}<" in page
-    note(office, "entry", paid, "purpose", "rent of <b>May</b>")
-    note(office, "entry", fixed, "purpose", "no reason")
+    office.note("entry", paid, "purpose", "rent of <b>May</b>")
+    office.note("entry", fixed, "purpose", "no reason")
     page = office.ask("sue", "/office/days/1/1").text
     assert "purpose: rent of &lt;b&gt;May&lt;/b&gt; (tess, " in page and f"correction {fixed}, " in page
-    note(office, "entry", fixed, "reason", "typed twice")
-    note(office, "entry", leg + 3, "reason", "the wrong account")
+    office.note("entry", fixed, "reason", "typed twice")
+    office.note("entry", leg + 3, "reason", "the wrong account")
     page = office.ask("sue", "/office/days/1/1").text
     assert "reason: typed twice" in page and f"Without a reason: difference {line}<" in page
-    note(office, "line", line, "difference", "a coin fell")
+    office.note("line", line, "difference", "a coin fell")
     page = office.ask("sue", "/office/days/1/1").text
     assert "difference: a coin fell" in page and "Without a reason" not in page

@@ -4,18 +4,18 @@ import io
 from xml.etree import ElementTree
 from zipfile import ZipFile
 
-from bank_office import evidence, sheets
-from bank_office.copies import Copies
-from conftest import Office
+from tespiorvu.office import evidence
+from tespiorvu.office.copies import Copies
+from tespiorvu.office.register import Holder
+from office.tests.conftest import Office
 
 
 def test_all_tables_and_the_trail_are_there_as_the_index_says(office: Office) -> None:
     old = office.bank("2025")
     old.post(1, 101, 700)
-    old.close()
-    office.bank(openings={101: 50_700}).close()
+    office.bank(before=old)
+    office.keep(Holder(1, 'Ann; "A" Two'))
     with office.opened() as found:
-        sheets.imported(found, "kim", "holders", 'holder,name,address,document,note,since\n1,"Ann; ""A""\nTwo",,,,\n'.replace("\nTwo", " Two").encode())
         out = io.BytesIO()
         with Copies(office.copies).all()[0] as year, Copies(office.copies).present() as present:
             count = evidence.write([year, present], found, "Sparbank", b"a line\n", out)

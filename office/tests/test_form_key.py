@@ -3,7 +3,7 @@ import multiprocessing
 from multiprocessing.synchronize import Barrier
 from pathlib import Path
 
-from bank_office.form_key import form_key_of
+from tespiorvu.office.form_key import form_key_of
 
 STARTS = 300
 

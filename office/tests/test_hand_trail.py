@@ -4,11 +4,12 @@ import gzip
 import json
 import os
 import subprocess
-import sys
 import time
 from pathlib import Path
 
-HAND = Path(__file__).resolve().parent.parent / "units/hand-trail"
+from office.tests.conftest import PROGRAMS
+
+LOG, OUT = "var/log/bank-front", "var/lib/bank-office-trail"
 MAP = '"0A" "amy";\n"0B" "ben";\n"0C" "amy";\n'
 
 
@@ -19,24 +20,22 @@ def line(badge: str, certificate: str, ended: float) -> str:
 
 def hand_over(folder: Path, valid: str = MAP) -> dict[tuple[str, str], tuple[int, int, int]]:
     """What the unit does, and the cards that it hands over: whether they are valid, and their first and last use."""
-    script = folder / "hand-trail"
-    script.write_text(HAND.read_text().replace("/var/log/bank-front", str(folder / "log")).replace("/var/lib/bank-office-trail", str(folder / "out")))
-    subprocess.run([sys.executable, "-P", script], input=valid, text=True, check=True)
-    with open(folder / "out/cards.csv", newline="") as file:
+    subprocess.run([PROGRAMS / "hand-trail"], env={"BANK_ROOT": str(folder)}, input=valid, text=True, check=True)
+    with open(folder / OUT / "cards.csv", newline="") as file:
         return {(it["badge"], it["serial"]): (int(it["valid"]), int(it["first"]), int(it["last"])) for it in csv.DictReader(file)}
 
 
 def test_cards_have_their_first_and_last_use_over_all_files(tmp_path: Path) -> None:
-    log, present = tmp_path / "log", int(time.time())
-    log.mkdir()
-    (tmp_path / "out").mkdir()
+    log, present = tmp_path / LOG, int(time.time())
+    log.mkdir(parents=True)
+    (tmp_path / OUT).mkdir(parents=True)
     with gzip.open(log / "audit.log-20260101.gz", "wt") as file:
         file.write(line("amy", "0A", 100.5) + line("cai", "0D", 70))
     (log / "audit.log-20260102").write_text(line("amy", "0A", 300) + '{"time":"x","lost":3}\n{"badge":"amy","certi')
     (log / "audit.log").write_text(line("amy", "0C", 400) + line("", "0B", 500) + line("ben", "", 500))
     wanted = {("amy", "0A"): (1, 100, 300), ("amy", "0C"): (1, 400, 400), ("ben", "0B"): (1, 0, 0), ("cai", "0D"): (0, 70, 70)}
     assert hand_over(tmp_path) == wanted
-    assert [it.stat().st_mode & 0o777 for it in sorted((tmp_path / "out").iterdir())] == [0o640, 0o640]
+    assert [it.stat().st_mode & 0o777 for it in sorted((tmp_path / OUT).iterdir())] == [0o640, 0o640]
     for it in log.iterdir():  # what was handed before is kept when its files are old, or gone
         os.utime(it, (present - 10 * 86_400,) * 2)
     (log / "audit.log-20260101.gz").unlink()
@@ -45,13 +44,13 @@ def test_cards_have_their_first_and_last_use_over_all_files(tmp_path: Path) -> N
 
 
 def test_the_policys_log_is_handed_whole_in_order(tmp_path: Path) -> None:
-    log = tmp_path / "log"
-    log.mkdir()
-    (tmp_path / "out").mkdir()
+    log = tmp_path / LOG
+    log.mkdir(parents=True)
+    (tmp_path / OUT).mkdir(parents=True)
     with gzip.open(log / "policy.log-20260101.gz", "wt") as file:
         file.write("1\n")
     (log / "policy.log-20260102").write_text("2\n")
     (log / "policy.log").write_text("3\ntorn")
     (log / "policy.log.old").write_text("x\n")
     assert hand_over(tmp_path, "") == {}
-    assert (tmp_path / "out/policy.log").read_text() == "1\n2\n3\n"
+    assert (tmp_path / OUT / "policy.log").read_text() == "1\n2\n3\n"

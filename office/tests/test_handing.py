@@ -9,11 +9,13 @@ from contextlib import closing
 from pathlib import Path
 
 import pytest
-from bank_file import OPENING, BankFile
-from bank_office import handing, statements
-from bank_office.copies import Copies
-from bank_office.handing import Places
-from bank_office.store import Refused
+from office.tests.bank_file import OPENING, BankFile
+from office.tests.conftest import make_program
+from tespiorvu.bank_file import moment_of
+from tespiorvu.office import handing, statements
+from tespiorvu.office.copies import Copies
+from tespiorvu.office.handing import Places
+from tespiorvu.office.store import Refused
 
 DATES = (datetime.date(2026, 1, 2), datetime.date(2026, 6, 1), datetime.date(2026, 12, 31))
 POSTED = (1_000, -300, 70)
@@ -23,43 +25,26 @@ class Machine:
     """A bank that was closed twice in one calendar year, by its folders."""
 
     def __init__(self, top: Path) -> None:
+        self.banks: dict[Path, BankFile] = {}
         self.places = Places(top / "bank", top / "copies", top / "office", top / "badges.csv")
         for it in self.places[:3]:
             it.mkdir()
         self.places.badges.write_text("badge,user\ntess,7\n")
-        self.year("2026", 0)
-        self.year("2026-2", 1, self.places.bank / "2026")
-        self.copy("20270101T033000.0Z-checked", 2, self.places.bank / "2026-2")
+        self.make(self.places.bank / "2026", 0)
+        self.make(self.places.bank / "2026-2", 1, self.places.bank / "2026")
+        self.make(self.places.copies / "20270101T033000.0Z-checked", 2, self.places.bank / "2026-2")
 
-    def bank(self, file: Path, place: int, before: Path | None) -> None:
-        """A file of the bank that goes on from the one of a folder, and has a post of its own date."""
-        file.parent.mkdir()
-        openings: dict[int, int] = {}
-        if before:
-            with closing(sqlite3.connect(before / "bank")) as old:
-                openings = dict(old.execute("SELECT account, balance FROM accounts"))
-                branches, proofs = old.execute("SELECT branch, day, vault FROM branches").fetchall(), old.execute("SELECT * FROM proofs").fetchall()
-        bank = BankFile(file, openings)
-        if before:
-            bank.bank.executemany("UPDATE branches SET day = ?2, cash = ?3, vault = ?3 WHERE branch = ?1", branches)
-            bank.bank.executemany("INSERT INTO proofs VALUES (?, ?, ?, ?, ?)", proofs)
-        date = DATES[place]
-        bank.moment = int(time.mktime((date.year, date.month, date.day, 12, 0, 0, 0, 0, -1)))
+    def make(self, folder: Path, place: int, before: Path | None = None) -> None:
+        """A closed year, or a copy that was checked: it goes on from a folder's and has a post of its own date."""
+        folder.mkdir()
+        bank = self.banks[folder] = BankFile(folder / "bank", self.banks[before] if before else None)
+        bank.at(*DATES[place].timetuple()[:3])
         bank.post(1, 101, POSTED[place])
         bank.close_day(1)
-        bank.close()
-
-    def year(self, name: str, place: int, before: Path | None = None) -> None:
-        """A closed year."""
-        self.bank(self.places.bank / name / "bank", place, before)
-
-    def copy(self, name: str, place: int, before: Path) -> None:
-        """A copy of the present bank that was checked."""
-        self.bank(self.places.copies / name / "bank", place, before)
 
     def handed(self) -> int:
         """Hands over."""
-        return handing.main(self.places)
+        return handing.hand(self.places)
 
     def statement(self, first: datetime.date = DATES[0]) -> list[tuple[str, int]]:
         """The statement of 101 over all."""
@@ -77,8 +62,7 @@ def machine(tmp_path: Path, monkeypatch: pytest.MonkeyPatch) -> Machine:
     """A machine whose bank_cli takes each file as it is, but for one that holds the word damage."""
     program = tmp_path / "programs/bank_cli"
     program.parent.mkdir()
-    program.write_text('#!/bin/sh\nif [ "$1" = check ] && grep -q damage "$2"; then echo "file: not read" >&2; exit 3; fi\n')
-    program.chmod(0o755)
+    make_program(program, 'if [ "$1" = check ] && grep -q damage "$2"; then echo "file: not read" >&2; exit 3; fi')
     monkeypatch.setenv("PATH", f"{program.parent}:{os.environ['PATH']}")
     return Machine(tmp_path)
 
@@ -86,24 +70,20 @@ def machine(tmp_path: Path, monkeypatch: pytest.MonkeyPatch) -> Machine:
 def test_two_closings_in_one_calendar_year_end_in_one_statement(machine: Machine) -> None:
     assert (machine.handed(), machine.statement()) == (0, WHOLE)
     assert Copies(machine.places.office).user_of("tess") == 7
-    assert (machine.places.office / "present").stat().st_mtime == handing.moment_of(Path("20270101T033000.0Z-checked"))
+    assert (machine.places.office / "present").stat().st_mtime == moment_of(Path("20270101T033000.0Z-checked/bank"))
 
 
 def test_a_copys_moment_has_its_part_of_a_second() -> None:
-    whole, later = (handing.moment_of(Path(f"20270101T033000.{it}Z-checked")) for it in (0, 7))
-    assert whole == 1_798_774_200 and 0.69 < later - whole < 0.71
+    whole, later = (moment_of(Path(f"20270101T033000.{it}Z-checked/bank")) for it in (0, 7))
+    assert whole == 1_798_774_200 and later is not None and 0.69 < later - whole < 0.71
 
 
 @pytest.mark.parametrize(
     "change",
-    [
-        lambda bank: (bank / "2026").rename(bank / "2099"),
-        lambda bank: (bank / "2026").rename(bank / "old year"),
-        lambda bank: shutil.copytree(bank / "2026", bank / "2025"),
-        lambda bank: shutil.copytree(bank / "2026", bank / "before.Xy1z"),
-        lambda bank: shutil.copytree(bank / "2026-2", bank / "next"),
-        lambda bank: (bank / "2027").mkdir(),
-    ],
+    [lambda bank: (bank / "2026").rename(bank / "2099"), lambda bank: (bank / "2026").rename(bank / "old year"),
+     lambda bank: shutil.copytree(bank / "2026", bank / "2025"),
+     lambda bank: shutil.copytree(bank / "2026", bank / "before.Xy1z"),
+     lambda bank: shutil.copytree(bank / "2026-2", bank / "next"), lambda bank: (bank / "2027").mkdir()],
     ids="renamed_late named_otherwise copied put_aside being_made empty".split(),
 )  # fmt: skip
 @pytest.mark.parametrize("is_handed", [False, True], ids=["before", "after"])
@@ -133,10 +113,10 @@ def test_years_are_in_the_order_of_the_banks_days_and_not_of_names(machine: Mach
 def test_a_year_closed_before_without_a_change_of_balances_is_found(machine: Machine) -> None:
     bank = machine.places.bank
     for name, before in (("3", "2026-2"), ("4", "3")):
-        machine.year(name, 2, bank / before)
+        machine.make(bank / name, 2, bank / before)
         with closing(sqlite3.connect(bank / name / "bank")) as found, found:
             found.execute("UPDATE accounts SET balance = opening")
-    machine.copy("20270102T033000.0Z-checked", 2, bank / "4")
+    machine.make(machine.places.copies / "20270102T033000.0Z-checked", 2, bank / "4")
     assert machine.handed() == 0
     assert len(list((machine.places.office / "years").iterdir())) == 4
 
@@ -173,8 +153,8 @@ def test_a_year_that_was_closed_after_the_copy_waits_for_the_next(machine: Machi
 
 def test_without_room_the_office_keeps_what_it_had(machine: Machine, monkeypatch: pytest.MonkeyPatch, capsys: pytest.CaptureFixture[str]) -> None:
     assert machine.handed() == 0
-    machine.year("2027", 2, machine.places.bank / "2026-2")
-    machine.copy("20270102T033000.0Z-checked", 2, machine.places.bank / "2027")
+    machine.make(machine.places.bank / "2027", 2, machine.places.bank / "2026-2")
+    machine.make(machine.places.copies / "20270102T033000.0Z-checked", 2, machine.places.bank / "2027")
 
     def full(*_: object) -> None:
         raise OSError(28, "No space left on device")
@@ -204,8 +184,8 @@ def test_what_an_earlier_version_handed_gives_way(machine: Machine) -> None:
 def test_years_and_copy_are_read_as_they_were_handed_together(machine: Machine) -> None:
     assert machine.handed() == 0
     opened = Copies(machine.places.office).all()
-    machine.year("2027", 2, machine.places.bank / "2026-2")
-    machine.copy("20270102T033000.0Z-checked", 2, machine.places.bank / "2027")
+    machine.make(machine.places.bank / "2027", 2, machine.places.bank / "2026-2")
+    machine.make(machine.places.copies / "20270102T033000.0Z-checked", 2, machine.places.bank / "2027")
     assert machine.handed() == 0
     with opened[-1] as present:
         row = present.row("SELECT opening FROM accounts WHERE account = 101")

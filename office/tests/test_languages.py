@@ -1,54 +1,53 @@
-"""The four languages: each sentence is translated, with the same places and with the counter's terms; numbers, dates and sheets are as a
-language writes them; and no page of the office is English in a German browser."""
+"""The four languages: each sentence is translated, with the same places and the counter's terms; numbers, dates, sheets are
+as a language writes them; no page of the office is English in a German browser; what somebody typed stays as typed."""
+import ast
 import datetime
 import functools
 import json
 import re
-import sys
-from collections.abc import Callable
+import sqlite3
+from collections.abc import Callable, Iterator
 from decimal import Decimal
 from pathlib import Path
+from typing import Any
 
 import pytest
-import replay_policy
-from bank_office import books, policy, register, runs, sheets
-from bank_office.languages import LANGUAGES, NAMES, PLACE, Language, language_of
-from bank_office.policy_file import explain, nights_of, opened_policy
-from bank_office.settings import OFFICES
-from conftest import Office
-from policy_bank import TESS
-from sentences import HERE, all_sentences, untranslated
-from test_controls import PLANTED, honest_month
-
-sys.path.append(str(Path(__file__).resolve().parents[2] / "tools"))
+from jinja2 import Environment, nodes
+from tespiorvu.branch import replay_policy
+from tespiorvu.office import books, controls, register, runs, sheets
+from tespiorvu.office.languages import LANGUAGES, NAMES, Count, Language, Sentence, Term, as_kept, from_kept, language_of
+from tespiorvu.policy import Kind
+from tespiorvu.procedures import PROCEDURES
+from tespiorvu.office.register import Holder, Holding, User
+from tespiorvu.office.policy_file import explain, nights_of, opened_policy
+from tespiorvu.office.settings import OFFICES
+from office.tests.bank_file import TABLES
+from office.tests.conftest import POST, Office
+from office.tests.policy_bank import TESS, PolicyBank
+from office.tests.test_controls import PLANTED, honest_month
 
 from pages.counter_texts import pattern_of, terms_and_retired
 
-OTHERS = LANGUAGES[1:]
-# What tables keep, and what is composed of these: terms that a page says as they are there.
+HERE, OTHERS = controls.QUERIES.parent, LANGUAGES[1:]
+PLACE = re.compile(r"\{(\w+)\}")
+# What says a sentence, which is a constant, and its first argument. (languages.py has no sentence of its own.)
+SAYS = {"Refused", "Taken", "Forbidden", "Sentence", "say", "t"}
+# The text of a template that has no `t`, which is in letters, but for what is the same in every language.
+LETTERS, ALIKE = re.compile("[A-Za-z]{2,}"), {"camt", "csv", "CSV", "PDF"}
+SHOWN_ATTRIBUTES = re.compile(r"""\b(?:aria-label|title|alt)=(["'])(.*?)\1""", re.DOTALL)
+TAG, JINJA = re.compile(r"<[^>]*>", re.DOTALL), re.compile(r"\{\{.*?\}\}|\{%.*?%\}|\{#.*?#\}", re.DOTALL)
+# What tables and lists have: terms that a page says as they are there.
 KEPT = {
-    *books.FORMS.values(), *books.CASH_FORMS.values(), "deposit", "withdrawal", "post", "correct", "drawer-on", "move-cash", "waiting",
-    "claimed", "done", "refused", "withdrawn", "proposed", "approved", "carried out", *runs.KINDS, *register.MAY, "none", "(command)",
+    *books.FORMS.values(), *books.CASH_FORMS.values(), "deposit", "withdrawal", "waiting", "claimed", "done", "refused",
+    "withdrawn", "proposed", "approved", "carried out", *runs.KINDS, *register.MAY, "none",
     *sheets.SHEETS, "holder", "holding", "user", "run", "change", "moment", "what", "row", "old", "new", "kind", "first", "last",
     *(it for sheet in sheets.SHEETS.values() for it in sheet.heading), "approved by", "withdrawn by", "refused ones again by",
     "reason", "purpose", "account", "branch", "drawer", "other", "source", "target", "delta", "amount", "cash", "entries", "balance", "vault", "drawers",
     "cash_entries", "differences", "number", "home", "form", "corrects", "corrected_by", "balance_after", "year", "teller", "transaction",
     "day", "date", "value date", "balance before", "balance after", "balance by the proof", "vault by the proof",
     "from", "to", "interest accrued", "opening", "moved", "ledger", "debit", "credit", "text",
-    *policy.PROCEDURES, *(it.name.lower() for it in policy.Kind), *replay_policy.COMMANDS, *OFFICES, "auditor", "procedure", "set", "limit", "members",
-    "True", "False",
-}  # fmt: skip
-COMPOSED = {
-    "{name}: {value} by the rows, {value2} by the proof", "{name}: {value} in the ledger, {value2} by the proof",
-    "proof: there is none of a closed day", "{transaction} in branch {branch}: {value}", "{sheet}.csv, line {line}: {why}",
-    "interest of {amount} at {rate} %", "fee of {amount}", "not sent after part {part}", "of yours the bank has {given}, good for today",
-    "customer {account}", "drawer {teller}", "entry {branch}/{number}", "entry {branch}/{number}, corrects {branch2}/{undoes}",
-    "This request can't be read", "There is no such page", "This page is not asked so", "A request has at most {value} MiB",
-    "The office has a fault: its journal says which", "The office answers {value}",
-    "user {user}", "suspended {user}", "set {number}", "relation {procedure} {number}", "triple {user} {procedure} {number}",
-    "certifier {user} {procedure}", "{value}: {value2} in the copy, {value3} by the log", "and {value} rows more",
-    "{value} of {count} commands are missing in the log", "the copy has {count} commands since, and the log {value}",
-    "a copy of an earlier night was put back: {value} commands after it are cut",
+    *PROCEDURES, *(it.name.lower() for it in Kind), *replay_policy.COMMANDS, *OFFICES, "auditor", "procedure", "set", "limit", "members",
+    "True", "False", controls.LEFT, "{sheet}.csv, line {line}: {why}",
 }  # fmt: skip
 # English sentences that have the word of a term, and mean something else.
 NOT_THE_TERM = {
@@ -58,10 +57,70 @@ NOT_THE_TERM = {
 }
 
 
+def sentences_in(file: Path) -> Iterator[tuple[str | None, str, set[Any]]]:
+    """The sentences of a module or a template, None for one that is no constant; where each stands, and the places that it
+    is given, None being a mapping."""
+    text = file.read_text(encoding="utf-8")
+    for call in Environment().parse(text).find_all(nodes.Call) if file.suffix == ".html" else ():
+        if isinstance(call.node, nodes.Name) and call.node.name == "t":
+            sentence = call.args[0].value if isinstance(call.args[0], nodes.Const) else None
+            yield sentence, f"{file.name}:{call.lineno}", {one.key for one in call.kwargs}
+    for it in ast.walk(ast.parse(text if file.suffix == ".py" else "")):
+        if not isinstance(it, ast.Call):
+            continue
+        name, where = getattr(it.func, "id", getattr(it.func, "attr", "")), f"{file.name}:{it.lineno}"
+        if name in SAYS:
+            first = it.args[0]
+            yield first.value if isinstance(first, ast.Constant) else None, where, {one.arg for one in it.keywords}
+        elif name == "Control":  # whose name and headings are terms
+            terms = [one.value for one in ast.walk(it) if isinstance(one, ast.Constant)]
+            yield from ((one, where, {None}) for one in terms if isinstance(one, str))
+
+
+@functools.cache
+def all_sentences() -> list[tuple[str | None, str, set[Any]]]:
+    """The sentences of all modules and templates."""
+    files = [it for it in (*HERE.glob("*.py"), *HERE.glob("templates/*.html")) if it.name != "languages.py"]
+    return [found for file in sorted(files) for found in sentences_in(file)]
+
+
+def of_queries() -> Iterator[str]:
+    """The names, titles and headings of the auditor's queries, by queries over a bank that has nothing. (What must not
+    meet in one hand the office lists by its settings, with a title and headings of its own.)"""
+    bank = sqlite3.connect(":memory:")
+    bank.executescript(TABLES)
+    for it in controls.queries():
+        yield it.name
+        if it.name != controls.IN_ONE_HAND:
+            yield it.title
+            yield from (column[0].replace("_", " ") for column in bank.execute(it.text).description)
+
+
 @functools.cache
 def wanted() -> dict[str, str]:
     """All that has to be translated, and where it stands."""
-    return {**{it: "tables" for it in KEPT | COMPOSED}, **all_sentences()}
+    said = {sentence: where for sentence, where, _ in all_sentences() if sentence}
+    return {**dict.fromkeys([*KEPT, *of_queries()], "a table"), **said}
+
+
+def untranslated(source: str) -> list[str]:
+    """The texts of a template that no `t` has, each with its line."""
+
+    def blank(found: re.Match[str]) -> str:
+        return "".join("\n" if it == "\n" else " " for it in found[0])
+
+    without = JINJA.sub(blank, source)
+    shown = [(without.count("\n", 0, it.start()) + 1, it[2]) for it in SHOWN_ATTRIBUTES.finditer(without)]
+    shown += list(enumerate(TAG.sub(blank, without).split("\n"), 1))
+    return [f"line {line}: {text.strip()}" for line, text in shown if set(LETTERS.findall(text)) - ALIKE]
+
+
+def test_each_sentence_is_a_constant_with_a_value_for_each_place(tmp_path: Path) -> None:
+    for sentence, where, given in all_sentences():
+        assert sentence and (None in given or given == {*PLACE.findall(sentence)}), where
+    for name, text in (("it.py", "Refused(f'{it}')\nsay('Day', day=1)"), ("it.html", "{{ t(it) }}\n{{ t('Day', day=1) }}")):
+        (tmp_path / name).write_text(text)
+        assert [*sentences_in(tmp_path / name)] == [(None, f"{name}:1", set()), ("Day", f"{name}:2", {"day"})]
 
 
 @pytest.mark.parametrize("code", OTHERS)
@@ -92,14 +151,10 @@ def test_what_no_t_has_is_found() -> None:
 def test_the_counters_terms_are_used(code: str) -> None:
     terms, retired = terms_and_retired()
     words = language_of(code).words
-    lacks = [
-        f"{term.name}: {english}: {said}"
-        for term in terms
-        for english, said in words.items()
-        if english not in NOT_THE_TERM.get(term.name, ())
-        and pattern_of(term.forms["en"]).search(PLACE.sub("", english))
-        and not pattern_of(term.forms[code]).search(PLACE.sub("", said))
-    ]
+    lacks = [f"{term.name}: {english}: {said}" for term in terms for english, said in words.items()
+             if english not in NOT_THE_TERM.get(term.name, ())
+             and pattern_of(term.forms["en"]).search(PLACE.sub("", english))
+             and not pattern_of(term.forms[code]).search(PLACE.sub("", said))]
     assert lacks == []
     old = [f"{word}: {it}" for word in retired[code] for it in words.values() if pattern_of((word,)).search(PLACE.sub("", it))]
     assert old == []
@@ -108,30 +163,58 @@ def test_the_counters_terms_are_used(code: str) -> None:
 def test_numbers_and_dates_are_as_a_language_writes_them() -> None:
     date = datetime.date(2026, 11, 30)
     shown = {it: (language_of(it).amount(-123_456_705), language_of(it).date(date)) for it in LANGUAGES}
-    assert shown == {
-        "en": ("-1,234,567.05", "2026-11-30"),
-        "de": ("-1.234.567,05", "30.11.2026"),
-        "fr": ("-1\u202f234\u202f567,05", "30/11/2026"),
-        "es": ("-1.234.567,05", "30/11/2026"),
-    }
+    assert shown == {"en": ("-1,234,567.05", "2026-11-30"), "de": ("-1.234.567,05", "30.11.2026"),
+                     "fr": ("-1\u202f234\u202f567,05", "30/11/2026"), "es": ("-1.234.567,05", "30/11/2026")}
 
 
-def test_a_text_is_said_with_its_values() -> None:
-    german = language_of("de")
-    assert german.told("interest of 1200.50 at 1.25 %") == "Zinsen 1200,50 zu 1,25\u00a0%"
-    assert german.told("2026-01-31 is after 2026-01-01") == "31.01.2026 liegt nach 01.01.2026"
-    assert german.told("holders.csv, line 3: holder is a whole number, and not 'x'") == "holders.csv, Zeile 3: Inhaber ist eine ganze Zahl, und nicht 'x'"
-    claimed = "Request 3 is claimed by sue; of yours the bank has 4, good for today"
-    assert german.told(claimed) == "Anfrage 3 ist übernommen von sue; von Ihnen hat die Bank 4, gültig für heute"
-    assert german.told("balance: 5 by the rows, 6 by the proof; proof: there is none of a closed day").count("Tagesabstimmung") == 2
-    assert german.told("Nothing of ours") == "Nothing of ours"
+def test_a_value_is_written_by_its_type() -> None:
+    german, date = language_of("de"), datetime.date(2026, 1, 31)
+    interest = Sentence("interest of {amount} at {rate} %", amount=Decimal("1200.50"), rate=Decimal("1.25"))
+    assert german.written(interest) == "Zinsen 1200,50 zu 1,25\u00a0%"
+    assert str(interest) == "interest of 1200.50 at 1.25 %"
+    assert german.say("{first} is after {last}", first=date, last="2026-01-31") == "31.01.2026 liegt nach 2026-01-31"
+    values = {"column": Term("holder"), "field": "'holder'"}
+    why = sheets.SheetRefused("holders", 3, Sentence("{column} is a whole number, and not {field}", **values))
+    assert german.written(why) == "holders.csv, Zeile 3: Inhaber ist eine ganze Zahl, und nicht 'holder'"
+    assert german.written([interest, interest]).count("; ") == 1
+    assert german.written([Term("post"), "post", True, Count(1_000)]) == "Ein- oder Auszahlung, post, ja, 1.000"
+
+
+@pytest.mark.parametrize("code", LANGUAGES)
+def test_what_is_kept_is_said_in_each_language_and_an_earlier_versions_text_as_it_stands(code: str) -> None:
+    language, row = language_of(code), Sentence("user {user}", user=7)
+    values = {"row": row, "copied": ["Present", False, Decimal("1.50")], "logged": Sentence("none")}
+    said = [Sentence("{row}: {copied} in the copy, {logged} by the log", **values)]
+    assert language.kept(as_kept(said)) == language.written(said) and str(from_kept(as_kept(row))) == "user 7"
+    for text in ("interest of 1.50 at 1.25 %", "Present", "", '{"name": "Overdrawn", "rule": 31}'):
+        assert language.kept(text) == text
+
+
+@pytest.mark.parametrize("code", LANGUAGES)
+def test_what_somebody_typed_comes_back_as_typed(code: str, office: Office) -> None:
+    bank, language, typed = PolicyBank(office), language_of(code), ("Present", "Open", "1250.00", "account")
+
+    def page(badge: str, path: str) -> str:
+        return str(office.ask(badge, f"/office/{path}", headers={"Accept-Language": code}).text)
+
+    bank.night()
+    for user, name in enumerate(typed, 40):
+        bank.command("olga", "enrol", user=user, name=name, officer=False)
+    night, listed = bank.night([]), page("olga", "controls")
+    with opened_policy(office.settings) as found:
+        explain(found, "Present", night.night, "1250.00")
+    changes = page("olga", "rights/changes")
+    assert re.search(r"Present,? .*: 1250\.00</p>", changes)
+    for user, name in enumerate(typed, 40):
+        values = {"row": Sentence("user {user}", user=user), "copied": [name, False], "logged": Sentence("none")}
+        row = language.say("{row}: {copied} in the copy, {logged} by the log", **values)
+        assert row in changes and row in listed, row
+        assert f"x; {name}; y" in page("sue", f"statements?account=101&first=x; {name}; y")
+        assert language.say("{sheet}: {count} rows changed", sheet=name, count=3) in page("kim", f"sheets?name={name}&changed=3")
 
 
 def test_a_sheet_is_as_a_language_writes_it_and_comes_in_again(office: Office) -> None:
-    rows = b"holder,name,address,document,note,since,born,language,warning,proposer\n1,M\xc3\xbcller; Anna,,,,,,,,\n"
-    with office.opened() as found:
-        sheets.imported(found, "kim", "holders", rows)
-        sheets.imported(found, "kim", "holdings", b"account,holder,may\n101,1,acts\n")
+    office.keep(Holder(1, "Müller; Anna"), Holding(101, 1, "acts"))
     for code in LANGUAGES:
         headers = {"Accept-Language": f"{code}-XX,{code};q=0.9,en;q=0.1"}
         for name in ("holders", "holdings"):
@@ -161,17 +244,13 @@ def marked(sentence: str) -> str:
 
 def filled(office: Office) -> None:
     """An office with something of everything, and with data of no English letters."""
-    with office.opened() as found:
-        sheets.imported(found, "kim", "holders", "holder,name,address,document,note,since\n1,Ю,Ю,Ю,Ю,2026-01-01\n2,Ю,,,,\n".encode())
-        sheets.imported(found, "kim", "holdings", b"account,holder,may\n101,1,owns\n102,2,acts\n")
-        sheets.imported(found, "kim", "users", "badge,user,name\ntess,7,Ю\n".encode())
+    office.keep(Holder(1, "Ю", "Ю", "Ю", "Ю", "2026-01-01"), Holder(2, "Ю"), User("tess", 7, "Ю"))
+    office.keep(Holding(101, 1, "owns"), Holding(102, 2, "acts"))
     bank = office.bank("2025")
-    bank.moment = int(datetime.datetime(2025, 6, 2, 12).timestamp())
+    bank.at(2025, 6, 2)
     bank.post(1, 101, 700)
-    openings = bank.balances()
     bank.close_day(1)
-    bank.close()
-    bank = office.bank(openings=openings)
+    bank = office.bank(before=bank)
     bank.move(1, 0, 11, 5_000, 2)
     wrong = bank.post(1, 101, 700)
     bank.post(1, 101, -700, undoes=wrong, user=8)
@@ -180,10 +259,9 @@ def filled(office: Office) -> None:
     bank.drawer_off(1, 11, 4_690)
     bank.bank.execute("INSERT INTO releases (user_no, number, giver, branch, day, form, used) VALUES (7, 1, 9, 1, 1, 1, 1), (7, 2, 9, 1, 1, 2, 0)")
     bank.close_day(1)
-    bank.close()
-    operation = {"procedure": "post", "account": 101, "branch": 1, "delta": 200_000, "teller": 11}
-    office.api("tess", "asks", {"wish": "release", "operations": [operation, {**operation, "delta": 5}]})
-    office.api("tess", "asks", {"wish": "correct", "operation": {**operation, "procedure": "correct", "entry": 1, "other": 0}})
+    office.api("tess", "asks", {"wish": "release", "operations": [POST, {**POST, "delta": 5}]})
+    correction = {**POST, "procedure": "correct", "entry": 1, "other": 0}
+    office.api("tess", "asks", {"wish": "correct", "operation": correction})
     office.api("sue", "asks/1/claim", {})
     period = {"branch": "1", "first": "2025-07-01", "last": "2025-07-31"}
     for kind in runs.KINDS:
@@ -227,12 +305,6 @@ def english_in(text: str) -> set[str]:
     return {word for it in shown for word in re.findall("[A-Za-z]{2,}", it.replace("&#39;", "'").replace("&lt;", "").replace("&gt;", ""))} - DATA - {part for it in NAMES.values() for part in re.findall("[A-Za-z]{2,}", it)}
 
 
-def get_rules(office: Office) -> set[str]:
-    """The addresses of all pages but those for programs."""
-    rules = [*office.app.url_map.iter_rules(), *office.runs_app.url_map.iter_rules()]
-    return {it.rule for it in rules if "GET" in (it.methods or ()) and "/api/" not in it.rule and "/static/" not in it.rule}
-
-
 def audited(office: Office) -> None:
     """An office with something of everything that an auditor sees, and each red night explained but one."""
     bank = honest_month(office)
@@ -254,9 +326,12 @@ def test_no_page_is_english_in_another_language(
     fill: Callable[[Office], None], pages: dict[str, list[str]], office: Office, monkeypatch: pytest.MonkeyPatch
 ) -> None:
     fill(office)
-    assert get_rules(office) - {*PAGES, *AUDIT_PAGES} == set(), "each page is looked at: PAGES or AUDIT_PAGES lacks these"
+    rules = [*office.app.url_map.iter_rules(), *office.runs_app.url_map.iter_rules()]
+    got = {it.rule for it in rules if "GET" in (it.methods or ())}
+    of_people = {it for it in got if "/api/" not in it and "/static/" not in it}
+    assert of_people - {*PAGES, *AUDIT_PAGES} == set(), "each page is looked at: PAGES or AUDIT_PAGES lacks these"
     one = Marked()
-    monkeypatch.setattr("bank_office.web.language_of", lambda code: one)
+    monkeypatch.setattr("tespiorvu.office.web.language_of", lambda code: one)
     for page in (it for of_rule in pages.values() for it in of_rule):
         who, path = page.split(" ")
         reply = office.ask(who, path)

@@ -2,7 +2,6 @@
 import csv
 import datetime
 import io
-import json
 import re
 import shutil
 import subprocess
@@ -11,56 +10,42 @@ from dataclasses import replace
 from pathlib import Path
 
 import pytest
-from bank_office import commands, papers
-from bank_office.chart import ChartAccount
-from bank_office.letterhead import Letterhead
-from bank_office.month import Month, files_of, month_of
-from bank_office.settings import Settings, SettingsError, read_settings
-from conftest import Office
+from tespiorvu.office import commands, papers
+from tespiorvu.office.chart import ChartAccount
+from tespiorvu.office.letterhead import Letterhead
+from tespiorvu.office.month import Month, files_of, month_of
+from tespiorvu.office.settings import Settings
+from office.tests.conftest import Office
 
-CHART = (ChartAccount("vault", "1000", "Kasse"), ChartAccount("customer", "3000", "Spareinlagen", 101, 199))
+CHART = (ChartAccount("vault", "1000", "Present"), ChartAccount("customer", "3000", "Spareinlagen", 101, 199))
 MARCH = datetime.date(2026, 3, 1), datetime.date(2026, 3, 31)
 
 
-def at(year: int, month: int, day: int) -> int:
-    """A moment by the machine's clock."""
-    return int(datetime.datetime(year, month, day, 9).timestamp())
-
-
 @pytest.fixture
-def settings(office: Office, tmp_path: Path) -> Settings:
+def settings(office: Office) -> Settings:
     """Two years of a bank of two branches, with entries at one another's accounts, differences, a closed March, and interest."""
     old = office.bank("2025")
-    old.moment = at(2025, 5, 5)
+    old.at(2025, 5, 5)
     old.post(1, 101, 4_000)
     old.drawer_off(1, 11, 4_000)
     for branch in (1, 2):
         old.close_day(branch)
-    new = office.bank(openings=old.balances())
-    vault = old.one("SELECT vault FROM branches WHERE branch = 1")
-    new.bank.execute("UPDATE branches SET cash = ?, vault = ? WHERE branch = 1", (vault, vault))
-    new.bank.execute("UPDATE branches SET day = 2")
-    old.close()
-    new.moment = at(2026, 2, 10)
+    new = office.bank(before=old)
+    new.at(2026, 2, 10)
     new.post(1, 101, 100_000)
     new.drawer_off(1, 11, 100_000)
     new.close_day(1)
-    new.moment = at(2026, 3, 5)
+    new.at(2026, 3, 5)
     wrong = new.post(1, 102, 123_456)
     new.post(1, 102, -123_456, undoes=wrong, user=8)
     new.post(1, 201, 700)
     new.transfer(1, 101, 202, 5_000)
-    first = new.transfer(1, 900, 101, 77)
+    office.pay_interest(new, "2026-02-01", "2026-02-28")
     new.drawer_off(1, 11, 690)
     new.close_day(1)
-    reply = json.dumps({"branch": 1, "first": first, "second": first + 1}).encode()
-    new.bank.execute("INSERT INTO slips (user_no, slip, reply) VALUES (50, 100001, ?)", (reply,))
-    new.moment = at(2026, 4, 7)
+    new.at(2026, 4, 7)
     new.post(2, 201, 1_000, teller=21)
-    new.close()
-    lines = [[100_001, "interest", "2026-02-01", "2026-02-28", "interest of 0.77 at 1.25 %"]]
-    (tmp_path / "reasons").write_text(json.dumps({"user": 50, "lines": lines}))
-    return replace(office.settings, letterhead=Letterhead("Sparbank", language="de"), reasons=tmp_path / "reasons", chart=CHART)
+    return replace(office.settings, letterhead=Letterhead("Sparbank", language="de"), chart=CHART)
 
 
 @pytest.fixture
@@ -96,6 +81,7 @@ def test_the_journal_has_documents_dates_and_the_charts_accounts(made: tuple[Mon
     paid = next(it for it in rows if it["Sachkonto"] == "Kunde 101" and it["Haben"])
     assert (paid["Konto"], paid["Name"], paid["Haben"], paid["Text"], paid["Wertstellung"]) == (
         "3000", "Spareinlagen", "0,77", "Zinsen 0,77 zu 1,25\u00a0%", "28.02.2026")  # fmt: skip
+    assert {it["Name"] for it in rows if it["Sachkonto"] == "Tresor"} == {"Present"}  # as the settings have it
     named = rows_of(made[1] / "interest-and-fees.csv")
     assert {(it["Konto"], it["Betrag"]) for it in named} == {("101", "0,77"), ("900", "-0,77")}
     accrued = {it["Konto"]: it for it in rows_of(made[1] / "interest-accrued.csv")}
@@ -122,8 +108,7 @@ def test_the_text_journal_is_taken_as_it_is(made: tuple[Month, Path], program: s
     file = str(folder / "journal.hledger")
     for account, cents in (
         ("Liabilities:Customers:3000:B1:101", after[1, "customer 101"]),
-        ("Assets:Vault:1000:B1", month.proofs[0].proof_vault),
-        ("Expenses:Differences:B1", after[1, "differences"]),
+        ("Assets:Vault:1000:B1", month.proofs[0].proof_vault), ("Expenses:Differences:B1", after[1, "differences"]),
         ("Assets:Branches:B1:2", after[1, "branch 2"]),
     ):
         assert sum_by([program, "-f", file, "bal", account]) == cents, account
@@ -160,14 +145,3 @@ def test_the_command_writes_all(office: Office, settings: Settings, monkeypatch:
     names = sorted(it.name for it in (settings.file.with_name("papers") / "2026-03").iterdir())
     assert names == ["balances.csv", "interest-accrued.csv", "interest-and-fees.csv", "journal.beancount", "journal.csv", "journal.hledger", "proofs.csv"]
     assert commands.main(["month", "2030-01"]) == 1
-
-
-def test_a_chart_is_read_or_refused(tmp_path: Path) -> None:
-    file = tmp_path / "settings.toml"
-    least = 'file = "/f"\ncopies = "/c"\nkeepers = []\napprovers = []\n[[ledger]]\n'
-    file.write_text(f'{least}of = "vault"\nnumber = "1000"\nname = "Kasse"\n')
-    assert read_settings(file).chart == (CHART[0],)
-    for wrong in ('of = "vault"', 'of = "bank"\nnumber = "1"\nname = "x"', 'of = "vault"\nnumber = "1 0"\nname = "x"', 'of = "vault"\nnumber = "1"\nname = "x"\nlow = "1"'):
-        file.write_text(f"{least}{wrong}\n")
-        with pytest.raises(SettingsError, match=r"\[\[ledger\]\]"):
-            read_settings(file)

@@ -1,26 +1,21 @@
 """The morning: a copy that is older than the last night is said on every page; the newest seal and what has failed stand on a sheet."""
-import importlib.util
 import os
 import subprocess
-import sys
 import time
-from importlib.machinery import SourceFileLoader
 from pathlib import Path
-from types import ModuleType
 
 import pytest
-from bank_office.languages import LANGUAGES, language_of
-from bank_office.morning import seal_of
-from conftest import Office
+from tespiorvu.branch import seal
+from tespiorvu.office.languages import LANGUAGES, language_of
+from tespiorvu.office.morning import seal_of
+from office.tests.conftest import PROGRAMS, Office, make_program
 
 LATE = "The last good night is that of {moment}. The copy of a later one is missing, or its check failed: what came since is not on these pages."
 HOUR = 3_600
-HAND = Path(__file__).resolve().parent.parent / "units/hand-morning"
 SEAL = "seal 4, branch 1, day 3: 40a7-0abf-11d2-9c3e-77f0-b5e6"
 NEWEST = "Newest seal: 4, of branch 1, day 3: <strong class=\"seal\">40a7-0abf-11d2-9c3e-77f0-b5e6</strong>"
 DAY_BOOK, SHEET = "/office/days/1/1", "/office/morning"
 FAILED = "list-units --state=failed --plain --no-legend --full --no-pager bank*"
-BRANCH = Path(__file__).resolve().parents[2] / "branch"
 
 
 @pytest.fixture(autouse=True)
@@ -29,7 +24,6 @@ def bank(office: Office) -> None:
     bank = office.bank()
     bank.post(1, 101, 700)
     bank.close_day(1)
-    bank.close()
 
 
 def aged(office: Office, hours: float) -> int:
@@ -62,12 +56,9 @@ def hand_over(office: Office, seal: str, units: str = "", status: int = 0) -> No
     room.mkdir(exist_ok=True)
     newest = f"echo '{seal}'" if not seal.startswith("bank-seal:") else f"echo '{seal}' >&2; exit 1"
     for name, arguments, does in (("bank-seal", "newest", newest), ("systemctl", FAILED, f"printf '{units}'")):
-        (room / name).write_text(f'#!/bin/sh\n[ "$*" = "{arguments}" ] || exit 9\n{does}\n')
-        (room / name).chmod(0o755)
-    script = room / "hand-morning"
-    script.write_text(HAND.read_text().replace("/var/lib/bank-office-morning", str(room)))
-    environment = {**os.environ, "PATH": f"{room}:{os.environ['PATH']}"}
-    assert subprocess.run([sys.executable, "-P", script], env=environment, stderr=subprocess.DEVNULL).returncode == status
+        make_program(room / name, f'[ "$*" = "{arguments}" ] || exit 9\n{does}')
+    environment = {"BANK_ROOT": str(office.root), "PATH": f"{room}:{os.environ['PATH']}"}
+    assert subprocess.run([PROGRAMS / "hand-morning"], env=environment, stderr=subprocess.DEVNULL).returncode == status
     assert (room / "morning").stat().st_mode & 0o777 == 0o640 and not (room / "morning.begun").exists()
 
 
@@ -110,23 +101,14 @@ def test_the_sheet_is_for_whom_the_bank_lists_a_proof_to_and_for_auditors(office
     assert [SHEET in office.ask(it, "/office/days").text for it in ("sue", "tess")] == [True, False]
 
 
-def seal_script() -> ModuleType:
-    """The branch's bank-seal."""
-    sys.path.append(str(BRANCH))
-    loader = SourceFileLoader("bank_seal", str(BRANCH / "seal"))
-    module = importlib.util.module_from_spec(importlib.util.spec_from_loader("bank_seal", loader) or pytest.fail("no bank-seal"))
-    loader.exec_module(module)
-    return module
-
-
 def test_a_line_of_bank_seal_is_read_as_it_prints_it(tmp_path: Path) -> None:
-    script, file = seal_script(), tmp_path / "000012.json"
+    file = tmp_path / "000012.json"
     file.write_bytes(b"a seal\n")
     gone = {"audit": [{"is_gone": True}], "policy": []}
-    line = script.said_of({"seal": 12, "branch": 3, "day": 40, "trail": gone}, file)
-    assert seal_of(line) == (12, 3, 40, script.characters(script.sum_of(b"a seal\n")), ("audit.log",))
-    line = script.said_of({"seal": 12, "branch": 3, "day": 40, "trail": dict.fromkeys(gone, [])}, file)
-    assert seal_of(line) == (12, 3, 40, script.characters(script.sum_of(b"a seal\n")), ())
+    line = seal.said_of({"seal": 12, "branch": 3, "day": 40, "trail": gone}, file)
+    assert seal_of(line) == (12, 3, 40, seal.characters(seal.sum_of(b"a seal\n")), ("audit.log",))
+    line = seal.said_of({"seal": 12, "branch": 3, "day": 40, "trail": dict.fromkeys(gone, [])}, file)
+    assert seal_of(line) == (12, 3, 40, seal.characters(seal.sum_of(b"a seal\n")), ())
     assert seal_of("no day is sealed") is None
     with pytest.raises(ValueError, match="day 40"):
         seal_of(line[:-1])
@@ -134,7 +116,7 @@ def test_a_line_of_bank_seal_is_read_as_it_prints_it(tmp_path: Path) -> None:
 
 def units_that_start(name: str) -> set[str]:
     """The ends of units after which a unit is started, as OnSuccess of bank-copy."""
-    folder = HAND.parent
+    folder = PROGRAMS.parent / "office/units"
     files = {it: it.name for it in folder.glob("*.service")} | {it: it.parent.name.removesuffix(".d") for it in folder.glob("*.d/*.conf")}
     found = {(unit, *it.split("=", 1)) for file, unit in files.items() for it in file.read_text().splitlines() if it.startswith("On")}
     return {f"{event} of {unit.removesuffix('.service')}" for unit, event, started in found if name in started.split()}
@@ -144,5 +126,5 @@ def test_the_sheet_is_made_whichever_way_the_night_ends() -> None:
     failures = {"bank-night", "bank-copy", "bank-audit", "bank-seal", *(f"bank-office-{it}" for it in ("copy", "save", "runs-save", "trail", "controls"))}
     ends = {"bank-audit", "bank-seal", "bank-office-controls"}
     assert units_that_start("bank-office-morning.service") == {f"OnFailure of {it}" for it in failures} | {f"OnSuccess of {it}" for it in ends}
-    after = {part for it in (HAND.parent / "bank-office-morning.service").read_text().splitlines() if it.startswith("After=") for part in it[6:].split()}
+    after = {part for it in (PROGRAMS.parent / "office/units/bank-office-morning.service").read_text().splitlines() if it.startswith("After=") for part in it[6:].split()}
     assert {f"{it}.service" for it in failures | ends} <= after

@@ -3,10 +3,10 @@ import sqlite3
 from typing import Any
 
 import pytest
-from bank_office import notes
-from bank_office.books import ENTRIES, Entry
-from bank_office.copies import Copies
-from conftest import Office
+from tespiorvu.office import notes
+from tespiorvu.office.books import ENTRIES, Entry
+from tespiorvu.office.copies import Copies
+from office.tests.conftest import Office
 
 PURPOSE: dict[str, Any] = {"branch": 1, "day": 2, "row": "entry", "number": 3, "kind": "purpose", "text": "Rent of May"}
 
@@ -20,9 +20,6 @@ def bank(office: Office) -> None:
     bank.close_day(1)
     bank.grant(8, [12], [(3, 1, 1), (4, 1, 1), (6, 1, 1)])
     bank.grant(20, [1], [(3, 2, 2)])
-    bank.close()
-    with open(office.copies / "badges.csv", "a") as file:
-        file.write("far,20\n")
 
 
 def kept(office: Office, badge: str = "tess", **changed: Any) -> Any:
@@ -41,8 +38,7 @@ def test_who_works_at_a_branch_keeps_a_note_and_who_sees_its_proof_reads_it(offi
     assert kept(office).json == {"kept": 1, "branch": 1, "day": 2}
     assert kept(office, "far").status_code == 403
     assert [(it["badge"], it["number"], it["text"]) for it in office.ask("sue", "/office/api/notes?branch=1&day=2").json["notes"]] == [
-        ("tess", 3, "Rent of May")
-    ]
+        ("tess", 3, "Rent of May")]
     assert office.ask("tess", "/office/api/notes?branch=1&day=2").status_code == 403
     assert office.ask("far", "/office/api/day?branch=1").status_code == 403
 

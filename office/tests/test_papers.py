@@ -1,6 +1,5 @@
 """Statements on paper: what they say, in whose language, and as PDF each with its own pages."""
 import datetime
-import json
 import shutil
 import subprocess
 from contextlib import ExitStack
@@ -9,47 +8,35 @@ from pathlib import Path
 from typing import Any
 
 import pytest
-from bank_office import commands, papers, reasons, sheets
-from bank_office.letterhead import Letterhead, letterhead_of
-from bank_office.papers import Paper, number_of
-from bank_office.settings import Settings, SettingsError, read_settings
-from bank_office.store import Refused
-from bank_office.web import make_app
-from conftest import Office
+from tespiorvu.office import commands, papers, reasons
+from tespiorvu.office.letterhead import Letterhead
+from tespiorvu.office.papers import Paper, number_of
+from tespiorvu.office.register import Holder, Holding
+from tespiorvu.office.settings import Settings
+from tespiorvu.office.store import Refused
+from tespiorvu.office.web import make_app
+from office.tests.conftest import INTEREST, Office
 
 HEAD = Letterhead("Sparbank Müllerstadt eG", "Marktplatz 1\n12345 Müllerstadt", "GnR 77", "", "de")
 MARCH = datetime.date(2026, 3, 1), datetime.date(2026, 3, 31)
 
 
-def at(year: int, month: int, day: int, hour: int) -> int:
-    """A moment by the machine's clock."""
-    return int(datetime.datetime(year, month, day, hour).timestamp())
-
-
 @pytest.fixture
-def settings(office: Office, tmp_path: Path) -> Settings:
+def settings(office: Office) -> Settings:
     """An office with a month of a bank: deposits, a transfer, a correction, and a transfer of interest that was made in April."""
-    made = replace(office.settings, letterhead=HEAD, reasons=tmp_path / "reasons")
-    with office.opened() as found:
-        rows = '1,Jürgen Müller,"Hauptstraße 5\n99999 Köln",,,,,de\n2,Zoë d\'Été,,,,,,fr\n'
-        sheets.imported(found, "kim", "holders", f"holder,name,address,document,note,since,born,language\n{rows}".encode())
-        sheets.imported(found, "kim", "holdings", b"account,holder,may\n101,1,owns\n102,2,owns\n103,1,acts\n201,2,owns\n")
+    german = Holder(1, "Jürgen Müller", "Hauptstraße 5\n99999 Köln", language="de")
+    office.keep(german, Holder(2, "Zoë d'Été", language="fr"))
+    office.keep(Holding(101, 1, "owns"), Holding(102, 2, "owns"), Holding(103, 1, "acts"), Holding(201, 2, "owns"))
     bank = office.bank()
-    bank.moment = at(2026, 2, 10, 9)
+    bank.at(2026, 2, 10, 9)
     bank.post(1, 101, 100_000)
-    bank.moment = at(2026, 3, 5, 9)
+    bank.at(2026, 3, 5, 9)
     wrong = bank.post(1, 101, 123_456)
     bank.post(1, 101, -123_456, undoes=wrong, user=8)
     bank.transfer(1, 101, 102, 5_000)
-    bank.moment = at(2026, 4, 1, 4)
-    first = bank.transfer(1, 900, 101, 77)
-    reply = json.dumps({"branch": 1, "first": first, "second": first + 1, "source": 0, "target": 0}).encode()
-    bank.bank.execute("INSERT INTO slips (user_no, slip, reply) VALUES (50, 100001, ?)", (reply,))
-    bank.close()
-    (tmp_path / "reasons").write_text(
-        json.dumps({"user": 50, "lines": [[100_001, "interest", "2026-03-01", "2026-03-31", "interest of 0.77 at 1.25 %"]]})
-    )
-    return made
+    bank.at(2026, 4, 1, 4)
+    office.pay_interest(bank, "2026-03-01", "2026-03-31")
+    return replace(office.settings, letterhead=HEAD)
 
 
 def paper(office: Office, settings: Settings, account: int, first: datetime.date, last: datetime.date) -> Paper:
@@ -61,8 +48,7 @@ def paper(office: Office, settings: Settings, account: int, first: datetime.date
 
 
 def test_a_paper_has_both_balances_and_each_entry_by_its_name(office: Office, settings: Settings) -> None:
-    with office.opened() as found:
-        found.execute("INSERT INTO notes (moment, badge, branch, day, row, number, kind, text) VALUES (1, 'tess', 1, 1, 'entry', 4, 'purpose', 'Miete')")
+    office.note("entry", 4, "purpose", "Miete")
     it = paper(office, settings, 101, *MARCH)
     assert (it.number, it.branch, it.statement.opening, it.statement.closing) == ("2026/03", 1, 150_000, 145_000)
     assert [(line.what, line.purpose, line.amount) for line in it.lines] == [
@@ -81,9 +67,7 @@ def test_interest_has_its_name_and_is_valued_at_the_end_of_its_period(office: Of
 
 
 def test_the_first_file_with_a_slip_has_its_entries(office: Office, settings: Settings) -> None:
-    old = office.bank("2025")
-    old.bank.execute("INSERT INTO slips (user_no, slip, reply) VALUES (50, 100001, ?)", (json.dumps({"branch": 1, "first": 8, "second": 9}).encode(),))
-    old.close()
+    office.pay_interest(office.bank("2025"), "2025-03-01", "2025-03-31")
     with ExitStack() as stack:
         source = papers.source_of(stack, settings, stack.enter_context(office.opened()))
         assert {key[0] for key in source.reasons} == {"2025"}
@@ -114,11 +98,12 @@ def test_reasons_are_handed_whole(office: Office, tmp_path: Path) -> None:
         settings.reasons.parent.mkdir()
         found.execute("INSERT INTO runs VALUES (1, 'fee', 1, 90, '2026-03-01', '2026-03-31', 0, 'kim', 3, '0', 'carried out')")
         for line, state in ((1, "done"), (2, "refused")):
-            found.execute(
-                "INSERT INTO run_lines VALUES (1, ?, 101, 1, 1, 101, 900, 250, ?, 'fee of 2.50', ?, '', 0)", (line, 100_000 + line, state)
-            )
+            row = line, 100_000 + line, INTEREST, state
+            found.execute("INSERT INTO run_lines VALUES (1, ?, 101, 1, 1, 101, 900, 250, ?, ?, ?, '', 0)", row)
         reasons.hand(found, settings)
-    assert reasons.handed(settings.reasons) == (50, {100_001: reasons.Reason("fee", "2026-03-01", "2026-03-31", "fee of 2.50")})
+    user, handed = reasons.handed(settings.reasons)
+    assert (user, [*handed], handed[100_001][:3]) == (50, [100_001], ("fee", "2026-03-01", "2026-03-31"))
+    assert str(handed[100_001].why) == "interest of 0.77 at 1.25 %"
     assert settings.reasons.stat().st_mode & 0o777 == 0o640
 
 
@@ -129,7 +114,7 @@ def text_of(file: Path, page: int) -> str:
 
 @pytest.mark.skipif(not (shutil.which("pdftotext") and shutil.which("qpdf")), reason="there is no pdftotext (package poppler-utils) or qpdf")
 def test_statements_of_a_branch_are_one_pdf(office: Office, settings: Settings, monkeypatch: pytest.MonkeyPatch, capsys: pytest.CaptureFixture[str]) -> None:
-    printing = pytest.importorskip("bank_office.printing", reason="there is no weasyprint")
+    printing = pytest.importorskip("tespiorvu.office.printing", reason="there is no weasyprint")
     monkeypatch.setattr(printing, "AT_ONCE", 1)
     monkeypatch.setattr(commands, "read_settings", lambda path: settings)
     assert commands.main(["statements", "1", "2026-03-01", "2026-03-31"]) == 0
@@ -156,22 +141,10 @@ def test_a_month_is_written_as_2026_11() -> None:
 
 
 def test_a_paper_asks_for_nothing_elsewhere() -> None:
-    printing = pytest.importorskip("bank_office.printing", reason="there is no weasyprint")
+    printing = pytest.importorskip("tespiorvu.office.printing", reason="there is no weasyprint")
     for address in ("file:///etc/passwd", "https://bank.branch/office/"):
         with pytest.raises(ValueError, match="asks for nothing"):
             printing.own_alone(address)
-
-
-def test_a_letterhead_is_read_or_refused(tmp_path: Path) -> None:
-    file = tmp_path / "settings.toml"
-    least = 'file = "/f"\ncopies = "/c"\nkeepers = []\napprovers = []\n'
-    file.write_text(f'{least}[letterhead]\nname = "Bank"\nlanguage = "es"\n')
-    assert read_settings(file).letterhead == Letterhead("Bank", language="es")
-    for wrong in ('language = "pl"', 'logo = "/logo.bmp"', 'fax = "1"', "name = 1"):
-        file.write_text(f"{least}[letterhead]\n{wrong}\n")
-        with pytest.raises(SettingsError, match=r"\[letterhead\]"):
-            read_settings(file)
-    assert letterhead_of({}) == Letterhead()
 
 
 def test_the_browser_shows_the_statement_as_the_paper_has_it(office: Office, settings: Settings, tmp_path: Path) -> None:

@@ -1,18 +1,13 @@
 """The queue: one supervisor claims a request before the bank is asked, parts are claimed at once, and what is taken back waits."""
 import json
-import sqlite3
 import threading
-from contextlib import closing
-from pathlib import Path
 from typing import Any
 
 import pytest
-from bank_office import asks
-from bank_office.store import now, opened
-from conftest import Office
+from tespiorvu.office import asks
+from tespiorvu.office.store import now, opened
+from office.tests.conftest import POST, Office, earlier_register
 
-EARLIER = Path(__file__).with_name("register-0.sql")
-POST: dict[str, Any] = {"procedure": "post", "account": 101, "branch": 1, "delta": 200_000, "teller": 11}
 PARTS = [{**POST, "delta": delta} for delta in (999_999, 999_999, 500_002)]
 
 
@@ -21,7 +16,6 @@ def bank(office: Office) -> None:
     """A bank in which Sue and Sam may release up to the highest amount."""
     bank = office.bank()
     bank.bank.execute("UPDATE grants SET ceiling = 999999 WHERE procedure = 8")
-    bank.close()
 
 
 def asked(office: Office, *operations: dict[str, Any]) -> int:
@@ -76,9 +70,7 @@ def test_a_claim_is_of_one_window_and_seen_by_all(office: Office) -> None:
     assert "claimed by sue" in office.ask("tess", "/office/queue").text
     reply = office.api("sam", f"asks/{number}/answer", {"releases": [4]})
     assert (reply.status_code, reply.json["office"]) == (
-        409,
-        f"Request {number} is claimed by sue; of yours the bank has 4, good for today",
-    )
+        409, f"Request {number} is claimed by sue; of yours the bank has 4, good for today")
 
 
 def test_what_is_taken_back_while_claimed_waits_for_the_outcome(office: Office) -> None:
@@ -104,9 +96,7 @@ def test_a_claim_that_runs_out_warns_the_next(office: Office, monkeypatch: pytes
     assert "sue claimed it and did not answer: a release may stand" in office.ask("sam", "/office/queue").text
     refused = office.api("sam", f"asks/{number}/claim", {})
     assert (refused.status_code, refused.json["office"]) == (
-        409,
-        f"sue claimed request {number} and did not answer: a release may stand",
-    )
+        409, f"sue claimed request {number} and did not answer: a release may stand")
     assert office.api("sam", f"asks/{number}/claim", {"again": True}).json["state"] == "claimed"
     assert office.api("sue", f"asks/{number}/answer", {"releases": [5]}).status_code == 409
     assert office.api("sam", f"asks/{number}/answer", {"releases": [6]}).json["number"] == 6
@@ -139,42 +129,34 @@ def test_parts_are_claimed_at_once_and_the_answer_lists_which_stand(office: Offi
     assert office.api("sue", f"asks/{other}/answer", {"number": None, "reason": "No"}).json["state"] == "refused"
 
 
-@pytest.mark.parametrize(
-    "operations",
-    [
-        [],
-        PARTS * 34,
-        [POST, {**POST, "account": 102}],
-        [POST, {**POST, "delta": -1}],
-        [POST, {"procedure": "transfer", "amount": 1, "branch": 1, "source": 101, "target": 102, "teller": 11}],
-        [{**POST, "procedure": ["post"]}],
-        {},
-    ],
-)
-def test_a_request_has_parts_of_one_amount(office: Office, operations: object) -> None:
-    assert office.api("tess", "asks", {"wish": "release", "operations": operations}).status_code == 422
+@pytest.mark.parametrize("name, value", [
+    *(("operations", it) for it in (
+        [], {}, PARTS * 34, [POST, {**POST, "account": 102}], [POST, {**POST, "delta": -1}],
+        [POST, {"procedure": "transfer", "amount": 1, "branch": 1, "source": 101, "target": 102, "teller": 11}])),
+    *(("operation", it) for it in (
+        {}, [], "x", {"procedure": "close-day", "branch": 1}, {**POST, "delta": 1_000_000}, {**POST, "delta": 1.5},
+        {**POST, "account": True}, {**POST, "more": 1}, {**POST, "procedure": ["post"]})),
+])  # fmt: skip
+def test_only_what_can_be_released_is_asked_for_in_equal_parts(office: Office, name: str, value: object) -> None:
+    assert office.api("tess", "asks", {"wish": "release", name: value}).status_code == 422
 
 
 def test_all_parts_have_to_be_allowed(office: Office) -> None:
-    with closing(sqlite3.connect(office.copies / "present")) as found, found:
-        found.execute("UPDATE grants SET ceiling = 600000 WHERE procedure = 8 AND user_no = 9")
+    office.change("UPDATE grants SET ceiling = 600000 WHERE procedure = 8 AND user_no = 9")
     number = asked(office, *PARTS)
     assert [len(office.ask(badge, "/office/api/queue").json["waiting"]) for badge in ("sue", "sam")] == [0, 1]
     assert office.api("sue", f"asks/{number}/claim", {}).status_code == 422
 
 
 def test_a_queue_of_an_earlier_version_is_taken_over(office: Office) -> None:
-    with closing(sqlite3.connect(office.settings.file)) as found, found:
-        found.executescript(EARLIER.read_text(encoding="utf-8"))
+    with earlier_register(office.settings.file) as found:
         found.executemany(
             "INSERT INTO asks (moment, badge, user, operation, wish, state, number) VALUES (?, 'tess', 7, ?, 'release', ?, ?)",
             [(now(), json.dumps(POST), state, number) for state, number in (("waiting", None), ("done", 12))],
         )
     with opened(office.settings.file) as found:
         assert [(it.operations, it.state, it.numbers) for it in asks.of_badge(found, "tess")] == [
-            ([POST], "done", [12]),
-            ([POST], "waiting", None),
-        ]
+            ([POST], "done", [12]), ([POST], "waiting", None)]
     assert office.api("sue", "asks/1/claim", {}).json["state"] == "claimed"
 
 

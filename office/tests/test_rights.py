@@ -3,14 +3,10 @@ import datetime
 import json
 import os
 import subprocess
-import sys
-from pathlib import Path
 
 import pytest
-from conftest import EVERYTHING, Office
+from office.tests.conftest import EVERYTHING, POST, PROGRAMS, Office
 
-HAND = Path(__file__).resolve().parent.parent / "units/hand-rights"
-NAMES = "/office/api/names?accounts=101"
 QUEUE = "/office/api/queue"
 
 
@@ -19,11 +15,8 @@ def bank(office: Office) -> None:
     """A bank whose copy was made a minute ago. Cai, a teller, sees accounts by one triple."""
     bank = office.bank()
     bank.grant(11, [9], EVERYTHING, 0)
-    bank.close()
     at = int((office.copies / "present").stat().st_mtime) - 60
     os.utime(office.copies / "present", (at, at))
-    with open(office.copies / "badges.csv", "a") as file:
-        file.write("cai,11\n")
 
 
 def line(command: str, body: dict[str, object], status: str = "200", late: int = 0) -> str:
@@ -35,9 +28,7 @@ def line(command: str, body: dict[str, object], status: str = "200", late: int =
 
 def hand_over(office: Office, *lines: str) -> None:
     """What the unit does with a log."""
-    script = office.copies.parent / "hand-rights"
-    script.write_text(HAND.read_text().replace("/var/lib/bank-office-copies", str(office.copies)))
-    subprocess.run([sys.executable, "-P", script], input="".join(lines), text=True, check=True)
+    subprocess.run([PROGRAMS / "hand-rights"], env={"BANK_ROOT": str(office.root)}, input="".join(lines), text=True, check=True)
 
 
 def statuses(office: Office, *badges: str) -> list[int]:
@@ -71,8 +62,7 @@ def test_a_triple_that_is_revoked_or_withdrawn_shows_nothing(office: Office) -> 
 
 
 def test_a_lower_limit_is_that_of_a_releaser_at_once(office: Office) -> None:
-    operation = {"procedure": "post", "account": 101, "branch": 1, "delta": 90_000, "teller": 11}
-    office.api("tess", "asks", {"wish": "release", "operation": operation})
+    office.api("tess", "asks", {"wish": "release", "operation": {**POST, "delta": 90_000}})
     key = {"user": 9, "procedure": "release", "set": 5}
     for limit, count in ((90_000, 1), (89_999, 0)):
         hand_over(office, line("revoke", key), line("grant", {**key, "limit": limit}))

@@ -1,24 +1,19 @@
 """Interest, fees and runs: to the cent, in parts, once each, approved by two."""
 import datetime
 import json
-import sqlite3
-import time
-from contextlib import closing
 from fractions import Fraction
-from pathlib import Path
 from typing import Any
 
 import pytest
-from bank_file import OPENING
-from bank_office import carry, interest, register, runs
-from bank_office.commands import main
-from bank_office.copies import Copies
-from bank_office.money import MOST_PER_ENTRY, half_up, millionths_of, parts_of
-from bank_office.store import Refused
-from conftest import EVERYTHING, Office
+from office.tests.bank_file import BankFile
+from tespiorvu.office import carry, interest, register, runs
+from tespiorvu.office.copies import Copies
+from tespiorvu.office.languages import language_of
+from tespiorvu.office.money import MOST_PER_ENTRY, half_up, millionths_of, parts_of
+from tespiorvu.office.store import Refused
+from office.tests.conftest import EVERYTHING, Office, earlier_register
 from hypothesis import given, strategies
 
-EARLIER = Path(__file__).with_name("register-0.sql")
 FIRST, LAST = datetime.date(2026, 1, 1), datetime.date(2026, 1, 31)
 
 
@@ -48,15 +43,16 @@ def test_rates_have_four_places() -> None:
             millionths_of(wrong)
 
 
-def banked(office: Office, balance: int = OPENING) -> None:
+@pytest.fixture(autouse=True)
+def banked(office: Office) -> BankFile:
     """A bank that begins with the year, and in which 101 grows by 100.00 in the middle of January."""
-    bank = office.bank(openings={101: balance})
-    bank.moment = int(time.mktime((2026, 1, 1, 8, 0, 0, 0, 0, -1)))
+    bank = office.bank()
+    bank.at(2026, 1, 1, 8)
     bank.move(1, 0, 11, 0, 2)
     bank.grant(50, [2, 4, 5], EVERYTHING)
-    bank.moment = int(time.mktime((2026, 1, 16, 12, 0, 0, 0, 0, -1)))
+    bank.at(2026, 1, 16)
     bank.post(1, 101, 10_000)
-    bank.close()
+    return bank
 
 
 def proposed(
@@ -68,7 +64,6 @@ def proposed(
 
 
 def test_interest_is_of_each_days_closing_balance(office: Office) -> None:
-    banked(office)
     run = proposed(office)
     with office.opened_runs() as found:
         lines = {it.account: it for it in runs.lines_of(found, run)}
@@ -78,7 +73,6 @@ def test_interest_is_of_each_days_closing_balance(office: Office) -> None:
 
 
 def test_a_period_is_run_once_and_only_when_it_is_over(office: Office) -> None:
-    banked(office)
     proposed(office)
     with pytest.raises(Refused, match="has interest from 2026-01-01"):
         proposed(office)
@@ -90,14 +84,11 @@ def test_a_period_is_run_once_and_only_when_it_is_over(office: Office) -> None:
 
 
 def test_a_run_never_gets_a_number_whose_slips_the_bank_has(office: Office) -> None:
-    banked(office)
-    with closing(sqlite3.connect(office.copies / "present")) as bank, bank:
-        bank.execute("INSERT INTO slips (user_no, slip) VALUES (50, 700012)")
+    office.change("INSERT INTO slips (user_no, slip) VALUES (50, 700012)")
     assert proposed(office) == 8
 
 
 def test_two_persons_approve_and_not_who_proposed(office: Office) -> None:
-    banked(office)
     run = proposed(office, badge="sue")
     with office.opened_runs() as found:
         for badge, user, why in (("sue", 9, "Who proposed"), ("kim", 3, "approve no runs")):
@@ -149,7 +140,6 @@ def carried(office: Office, bank: Any, run: int) -> tuple[int, int]:
 
 
 def test_a_run_that_is_cut_acts_once(office: Office) -> None:
-    banked(office)
     run = approved(office)
     bank = FakeBank(stops_after=2)
     with pytest.raises(carry.Unanswered):
@@ -161,8 +151,8 @@ def test_a_run_that_is_cut_acts_once(office: Office) -> None:
         carried(office, bank, run)
 
 
-def test_a_large_amount_goes_in_parts_and_stops_where_one_is_refused(office: Office) -> None:
-    banked(office, 2_400_000_000)
+def test_a_large_amount_goes_in_parts_and_stops_where_one_is_refused(office: Office, banked: BankFile) -> None:
+    banked.post(1, 101, 4_800_000_000)
     run = approved(office)
     with office.opened_runs() as found:
         lines = [it for it in runs.lines_of(found, run) if it.account == 101]
@@ -170,7 +160,8 @@ def test_a_large_amount_goes_in_parts_and_stops_where_one_is_refused(office: Off
     bank = FakeBank(refuses=frozenset({101}))
     assert carried(office, bank, run) == (2, 3)
     with office.opened_runs() as found:
-        assert [it.reply for it in runs.lines_of(found, run) if it.account == 101][1:] == ["not sent after part 1"] * 2
+        replies = [language_of("en").kept(it.reply) for it in runs.lines_of(found, run) if it.account == 101]
+        assert replies[1:] == ["not sent after part 1"] * 2
         runs.try_refused_again(found, office.settings, "sue", run)
     bank.refuses = frozenset()
     assert carried(office, bank, run) == (5, 0)
@@ -178,7 +169,6 @@ def test_a_large_amount_goes_in_parts_and_stops_where_one_is_refused(office: Off
 
 
 def test_a_run_of_which_nothing_was_carried_out_is_withdrawn_and_its_period_proposed_anew(office: Office) -> None:
-    banked(office)
     run = approved(office)
     assert carried(office, FakeBank(refuses=frozenset({101, 102, 103})), run) == (0, 3)
     assert "Withdraw" in office.ask("sue", f"/office/runs/{run}").text
@@ -195,7 +185,6 @@ def test_a_run_of_which_nothing_was_carried_out_is_withdrawn_and_its_period_prop
 
 
 def test_a_run_of_which_a_transfer_was_sent_is_not_withdrawn(office: Office) -> None:
-    banked(office)
     run, other = approved(office), approved(office, "fee")
     bank = FakeBank(stops_after=1)
     with pytest.raises(carry.Unanswered):
@@ -215,7 +204,6 @@ def test_a_run_of_which_a_transfer_was_sent_is_not_withdrawn(office: Office) -> 
 
 
 def test_a_run_that_is_withdrawn_while_its_drawer_is_put_on_sends_nothing(office: Office) -> None:
-    banked(office)
     run = approved(office)
 
     class Slow(FakeBank):
@@ -231,54 +219,38 @@ def test_a_run_that_is_withdrawn_while_its_drawer_is_put_on_sends_nothing(office
     assert bank.taken == {}
 
 
-@pytest.mark.parametrize(
-    "text, why",
-    [
-        ("UPDATE tellers SET branch = 2 WHERE teller = 90", "teller 90 is of branch 2"),
-        ("DELETE FROM tellers WHERE teller = 90", "teller 90 is of no branch"),
-        ("DELETE FROM accounts WHERE account = 900", "there is no account 900"),
-        ("DELETE FROM grants WHERE user_no = 50 AND procedure = 2", "no triple for transfer on .*account 101"),
-        ("DELETE FROM grants WHERE user_no = 50 AND procedure = 4", "no triple for drawer-on on teller 90"),
-        ("UPDATE grants SET ceiling = 1 WHERE user_no = 50 AND procedure = 2", "no triple for transfer"),
-        ("UPDATE users SET suspended = 1 WHERE user_no = 50", "no triple for drawer-on"),
-    ],
-)
+@pytest.mark.parametrize("text, why", [
+    ("UPDATE tellers SET branch = 2 WHERE teller = 90", "teller 90 is of branch 2"),
+    ("DELETE FROM tellers WHERE teller = 90", "teller 90 is of no branch"),
+    ("DELETE FROM accounts WHERE account = 900", "there is no account 900"),
+    ("DELETE FROM grants WHERE user_no = 50 AND procedure = 2", "no triple for transfer on .*account 101"),
+    ("DELETE FROM grants WHERE user_no = 50 AND procedure = 4", "no triple for drawer-on on teller 90"),
+    ("UPDATE grants SET ceiling = 1 WHERE user_no = 50 AND procedure = 2", "no triple for transfer"),
+    ("UPDATE users SET suspended = 1 WHERE user_no = 50", "no triple for drawer-on"),
+])  # fmt: skip
 def test_a_run_that_the_bank_would_refuse_is_not_proposed(office: Office, text: str, why: str) -> None:
-    banked(office)
-    with closing(sqlite3.connect(office.copies / "present")) as bank, bank:
-        bank.execute(text)
+    office.change(text)
     with pytest.raises(Refused, match=why):
         proposed(office)
 
 
 def test_fees_go_the_other_way(office: Office) -> None:
-    banked(office)
     run = proposed(office, "fee")
     with office.opened_runs() as found:
         assert [(it.source, it.target, it.amount) for it in runs.lines_of(found, run)] == [
-            (it, 900, 250) for it in (101, 102, 103)
-        ]
+            (it, 900, 250) for it in (101, 102, 103)]
 
 
-@pytest.mark.parametrize(
-    "status, body, decided",
-    [
-        (200, {"first": 1}, True),
-        (409, {"name": "floor", "rule": 11}, True),
-        (503, {"fault": "F1"}, False),
-        (503, {"fault": "F3"}, False),
-        (503, {"fault": "F2"}, True),
-        (502, {"front": "no reply"}, False),
-        (429, {"front": "too many"}, False),
-        (422, {"fault": "M6"}, True),
-    ],
-)
+@pytest.mark.parametrize("status, body, decided", [
+    (200, {"first": 1}, True), (409, {"name": "floor", "rule": 11}, True), (503, {"fault": "F1"}, False),
+    (503, {"fault": "F3"}, False), (503, {"fault": "F2"}, True), (502, {"front": "no reply"}, False),
+    (429, {"front": "too many"}, False), (422, {"fault": "M6"}, True),
+])  # fmt: skip
 def test_only_the_bank_decides(status: int, body: dict[str, object], decided: bool) -> None:
     assert carry.decides(carry.Reply(status, body)) is decided
 
 
 def test_two_badges_of_one_user_are_one_person(office: Office) -> None:
-    banked(office)
     first, second = proposed(office, badge="sue"), proposed(office, "fee", badge="sam2")
     statuses = [office.form(badge, f"/office/runs/{first}/approve").status_code for badge in ("sam", "sam2", "carl")]
     assert statuses == [303, 422, 303]
@@ -288,18 +260,14 @@ def test_two_badges_of_one_user_are_one_person(office: Office) -> None:
 
 
 def test_approvers_see_names_of_their_triples_alone(office: Office) -> None:
-    banked(office)
     run = proposed(office)
-    with office.opened() as found:
-        register.put_holder(found, "kim", register.Holder(1, "Ann One"))
-        register.put_holding(found, "kim", register.Holding(101, 1, "owns"))
+    office.keep(register.Holder(1, "Ann One"), register.Holding(101, 1, "owns"))
     for badge, is_shown in (("sue", True), ("carl", False)):
         page = office.ask(badge, f"/office/runs/{run}")
         assert (page.status_code, "Ann One" in page.text) == (200, is_shown), badge
 
 
 def test_a_run_is_shown_without_names_where_the_register_can_not_be_read(office: Office) -> None:
-    banked(office)
     run = proposed(office)
     office.settings.file.unlink(missing_ok=True)
     assert "Run 1: interest" in office.ask("sue", f"/office/runs/{run}").text
@@ -307,7 +275,6 @@ def test_a_run_is_shown_without_names_where_the_register_can_not_be_read(office:
 
 
 def test_the_office_has_no_page_of_runs_and_no_row_of_them(office: Office) -> None:
-    banked(office)
     run = proposed(office)
     for path in ("/office/runs", f"/office/runs/{run}", f"/office/runs/{run}/approve"):
         assert office.app.test_client().get(path, headers={"Bank-Badge": "sue"}).status_code == 404, path
@@ -318,22 +285,18 @@ def test_the_office_has_no_page_of_runs_and_no_row_of_them(office: Office) -> No
 
 
 def test_runs_of_an_earlier_register_are_taken_over_once(office: Office) -> None:
-    office.bank().close()
     office.settings.file.unlink(missing_ok=True)
-    with closing(sqlite3.connect(office.settings.file)) as found, found:
-        found.executescript(EARLIER.read_text(encoding="utf-8"))
+    with earlier_register(office.settings.file) as found:
         found.execute("INSERT INTO runs VALUES (3, 'fee', 1, 90, '2026-01-01', '2026-01-31', 5, 'kim', '6', 'approved')")
         found.execute("INSERT INTO runs VALUES (4, 'fee', 1, 90, '2026-02-01', '2026-02-28', 5, '(command)', '6', 'proposed')")
         found.execute("INSERT INTO run_lines VALUES (3, 1, 101, 1, 1, 101, 900, 250, 300001, 'fee', 'done', '{}', 7)")
         found.execute("INSERT INTO run_lines VALUES (3, 2, 102, 1, 1, 102, 900, 250, 300002, 'fee', 'waiting', '', NULL)")
         found.executemany("INSERT INTO approvals VALUES (3, ?, 8)", [("sue",), ("gone",)])
-    assert main(["--settings", str(settings_of(office)), "save", "runs"]) == 0
+    assert office.command("save", "runs") == 0
     with office.opened_runs() as found:
         assert [(it["badge"], it["user"]) for it in runs.approvals_of(found, 3)] == [("gone", None), ("sue", 9)]
         assert [(it["run"], it["user"], it["state"]) for it in found.execute("SELECT * FROM runs ORDER BY run")] == [
-            (3, 3, "approved"),
-            (4, None, "proposed"),
-        ]
+            (3, 3, "approved"), (4, None, "proposed")]
     bank = FakeBank()
     assert (carried(office, bank, 3), sorted(bank.taken)) == ((2, 0), [300_002])
     with office.opened() as found:  # what is changed there later is not taken again
@@ -342,26 +305,14 @@ def test_runs_of_an_earlier_register_are_taken_over_once(office: Office) -> None
         assert [it["state"] for it in found.execute("SELECT * FROM runs ORDER BY run")] == ["carried out", "proposed"]
 
 
-def settings_of(office: Office) -> Path:
-    """The settings of an office as a file."""
-    file = office.copies.parent / "settings.toml"
-    file.write_text(
-        f'file = "{office.settings.file}"\nruns = "{office.settings.runs}"\ncopies = "{office.copies}"\nkeepers = ["kim"]\n'
-        'approvers = ["sue", "sam"]\n'
-    )
-    return file
-
-
 def test_a_change_of_a_run_that_is_taken_away_shows(office: Office, capsys: pytest.CaptureFixture[str]) -> None:
-    banked(office)
     run = approved(office)
-    given = ["--settings", str(settings_of(office)), "save", "runs"]
-    assert main(given) == 0
+    assert office.command("save", "runs") == 0
     assert "3 changes, sum " in capsys.readouterr().out
     with office.opened_runs() as found:
         assert [json.loads(it["new"]).get("approved by") for it in found.execute("SELECT * FROM changes ORDER BY change")] == [None, "sue", "sam"]
         found.execute("DROP TRIGGER changes_are_kept")
         found.execute("DELETE FROM changes WHERE change = 2")
         assert runs.run_of(found, run)["state"] == "approved"
-    assert main(given) == 1
+    assert office.command("save", "runs") == 1
     assert "change 3 does not follow from the one before" in capsys.readouterr().err

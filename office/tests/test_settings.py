@@ -1,18 +1,18 @@
 """Settings and commands: what is wrong is refused by its name."""
-import shlex
+import re
 import subprocess
-import sys
 from pathlib import Path
 
 import pytest
-from bank_office.commands import main
-from bank_office.settings import NAMES, SettingsError, read_settings
-from bank_office.settings_text import EXAMPLES
-from bank_office.store import opened
+from tespiorvu.office.chart import ChartAccount
+from tespiorvu.office.commands import main
+from tespiorvu.office.letterhead import Letterhead, letterhead_of
+from tespiorvu.office.settings import NAMES, SettingsError, read_settings
+from tespiorvu.office.settings_text import EXAMPLES
+from tespiorvu.office.store import opened
 
 OFFICE = Path(__file__).resolve().parent.parent
-# What the office is run with, as its package has it: with the replay of the policy, which is the branch's.
-PATH = f"{OFFICE}:{OFFICE.parent / 'branch'}"
+PROGRAMS = OFFICE.parent / "programs"
 GOOD = """
 file = "FOLDER/office"
 runs = "FOLDER/runs"
@@ -38,6 +38,7 @@ rate = "0"
 account = 900
 teller = {teller}
 """
+VAULT = 'of = "vault"\nnumber = "1000"\nname = "Present"\n'
 
 
 def written(folder: Path, text: str) -> Path:
@@ -50,6 +51,20 @@ def written(folder: Path, text: str) -> Path:
 def test_good_settings_are_read(tmp_path: Path) -> None:
     found = read_settings(written(tmp_path, GOOD))
     assert (found.keepers, found.schemes[0].millionths, found.currency) == ({"kim"}, 12_500, "EUR")
+    assert found.letterhead == letterhead_of({}) == Letterhead()
+    found = read_settings(written(tmp_path, f'{GOOD}[letterhead]\nname = "Bank"\nlanguage = "es"\n[[ledger]]\n{VAULT}'))
+    assert found.letterhead == Letterhead("Bank", language="es")
+    assert found.chart == (ChartAccount("vault", "1000", "Present"),)
+
+
+@pytest.mark.parametrize("heading, wrong", [
+    *(("[letterhead]", it) for it in ('language = "pl"', 'logo = "/logo.bmp"', 'fax = "1"', "name = 1")),
+    *(("[[ledger]]", it) for it in (
+        'of = "vault"', VAULT.replace("vault", "bank"), VAULT.replace("1000", "1 0"), f'{VAULT}low = "1"')),
+])  # fmt: skip
+def test_a_wrong_part_is_refused_by_its_heading(tmp_path: Path, heading: str, wrong: str) -> None:
+    with pytest.raises(SettingsError, match=re.escape(heading)):
+        read_settings(written(tmp_path, f"{GOOD}{heading}\n{wrong}\n"))
 
 
 @pytest.mark.parametrize("old, new, why", [
@@ -89,7 +104,7 @@ def test_each_setting_that_is_wrong_is_named_with_an_example(tmp_path: Path, cap
 @pytest.mark.parametrize("name", ["bank-office", "bank-office-approvals"])
 def test_settings_that_are_wrong_end_the_start_of_a_service(name: str) -> None:
     lines = [it for it in (OFFICE / f"units/{name}.service").read_text().splitlines() if it.startswith("Exec")]
-    assert lines[0] == "ExecStartPre=/usr/bin/python3 -P -m bank_office check" and lines[1].startswith("ExecStart=/usr/bin/gunicorn")
+    assert lines[0] == "ExecStartPre=/usr/share/tespiorvu/office check" and lines[1].startswith("ExecStart=/usr/bin/gunicorn")
 
 
 def test_the_settings_that_are_installed_are_good() -> None:
@@ -122,25 +137,20 @@ def test_commands_import_export_and_save(tmp_path: Path, capsys: pytest.CaptureF
 def test_a_change_by_a_command_has_who_called_it(tmp_path: Path, caller: str, wanted: str) -> None:
     settings, sheet = str(written(tmp_path, GOOD)), tmp_path / "users.csv"
     sheet.write_text("badge,user,name\ntess,7,Tess\n")
-    environment = {"PATH": "/usr/bin", "PYTHONPATH": PATH, "SUDO_USER": caller, "PYTHONDONTWRITEBYTECODE": "1"}
-    command = [sys.executable, "-m", "bank_office", "--settings", settings, "import", "users", str(sheet)]
-    subprocess.run(command, env=environment, check=True, capture_output=True)
+    command = [str(PROGRAMS / "office"), "--settings", settings, "import", "users", str(sheet)]
+    subprocess.run(command, env={"PATH": "/usr/bin", "SUDO_USER": caller}, check=True, capture_output=True)
     with opened(tmp_path / "office") as found:
         assert found.execute("SELECT badge FROM changes").fetchone()[0] == wanted
 
 
 def test_the_command_takes_no_python_from_the_folder_of_the_call(tmp_path: Path) -> None:
-    line = next(it for it in (OFFICE / "bank-office").read_text().splitlines() if " -m bank_office" in it)
-    swaps = {"/usr/share/tespiorvu-office": PATH, "/usr/bin/python3": sys.executable}
-    words = [it for it in shlex.split(line.partition(" -- ")[2]) if it != "$@"]
-    for old, new in swaps.items():
-        words = [it.replace(old, new) for it in words]
-    for name in ("bank_office", "sqlite3", "json", "argparse"):
+    for name in ("tespiorvu", "sqlite3", "json", "argparse"):
         (tmp_path / f"{name}.py").write_text(f"raise SystemExit('{name} of a stranger')")
-    ran = subprocess.run([*words, "--help"], cwd=tmp_path, capture_output=True, text=True)
+    environment = {"PATH": "/usr/bin", "PYTHONPATH": str(tmp_path)}
+    ran = subprocess.run([PROGRAMS / "office", "--help"], env=environment, cwd=tmp_path, capture_output=True, text=True)
     assert (ran.returncode, ran.stdout.split()[:2], ran.stderr) == (0, ["usage:", "bank-office"], "")
 
 
-@pytest.mark.parametrize("unit", sorted((OFFICE / "units").glob("*.service")), ids=lambda it: it.name)
-def test_no_unit_takes_python_from_a_folder_where_it_stands(unit: Path) -> None:
-    assert all(" -P " in it for it in unit.read_text().splitlines() if it.startswith("ExecStart=/usr/bin/python3"))
+@pytest.mark.parametrize("program", sorted(it for it in PROGRAMS.iterdir() if it.is_file()), ids=lambda it: it.name)
+def test_no_program_takes_python_from_its_environment(program: Path) -> None:
+    assert program.read_text().startswith("#!/usr/bin/python3 -EsB\n")

@@ -2,11 +2,11 @@
 forms of others."""
 import re
 import time
-from collections.abc import Iterator
 
 import pytest
-from bank_file import BankFile
-from conftest import Office
+from office.tests.bank_file import BankFile
+from office.tests.conftest import Office
+from tespiorvu.office.register import Holder, Holding
 
 DAY, TESS = 86_400, 7
 STATEMENT, ACCOUNTS, PROOF = 10, 11, 12
@@ -14,15 +14,12 @@ ACCOUNT, BRANCH, HISTORY, VAULT = 1, 3, 4, 6
 
 
 @pytest.fixture
-def bank(office: Office) -> Iterator[BankFile]:
+def bank(office: Office) -> BankFile:
     """A bank; Ann has an account at each of its branches, and Bea one at the second. Tess works at the first."""
     found = office.bank()
-    for holder, name in ((5, "Ann"), (6, "Bea")):
-        assert office.form("kim", f"/office/holders/{holder}", name=name).status_code == 303
-    for account, holder in ((101, 5), (202, 5), (201, 6)):
-        assert office.form("kim", f"/office/holders/{holder}/accounts", account=str(account), may="owns").status_code == 303
-    yield found
-    found.close()
+    office.keep(Holder(5, "Ann"), Holder(6, "Bea"))
+    office.keep(Holding(101, 5, "owns"), Holding(202, 5, "owns"), Holding(201, 6, "owns"))
+    return found
 
 
 def accounts_found(office: Office, text: str) -> list[list[int]]:

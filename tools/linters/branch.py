@@ -16,9 +16,10 @@ NO_COMMAND = re.compile(r"Command (\S+) is not executable: No such file")
 # How exposed a unit may be, of 10, by its name; and any other.
 EXPOSURES = {"bank.service": 0.5, "bank-trail.service": 0.5, "bank-copy.service": 0.7, "bank-audit.service": 0.9, "bank-seal.service": 0.9, "bank-certificates.service": 1.1,
              "bank-disk.service": 1.1, "bank-night.service": 1.5, "bank-renew.service": 1.5, "bank-limits.service": 1.7,
+             "bank-office-evening.service": 1.5, "bank-office-morning.service": 1.5,
              # These mount a disk for all, or load DRBD.
              "bank-branch.service": 4.8, "bank-stand-by.service": 4.7, "bank-rooms.service": 3.6}
-MOST_EXPOSED = 2.4
+MOST_EXPOSED, MOST_OF_OFFICE = 2.4, 1.2
 EXPOSURE = re.compile(r"Overall exposure level for (\S+): ([\d.]+)")
 
 
@@ -93,7 +94,7 @@ def exposure(top: str) -> list[str]:
     found = []
     for name, lines in tables.items():
         level = EXPOSURE.search(lines[-1]) if lines else None
-        most = EXPOSURES.get(name, MOST_EXPOSED)
+        most = EXPOSURES.get(name, MOST_OF_OFFICE if name.startswith("bank-office") else MOST_EXPOSED)
         if not level or float(level[2]) > most:
             found.append(f"{name}: the exposure is {level[2] if level else 'not reported'}, at most {most} may be")
     return found

@@ -8,9 +8,10 @@ from linters.tree import findings_of, output_of, python_files
 # What has modules, and where they look for others. (Two of them may have modules of one name.)
 ROOTS: dict[str, list[str]] = {
     "tools": ["tools"],
-    "branch": ["branch", "tools"],
-    "desk": ["desk/checks", "branch", "tools"],
-    "office": ["office/checks", "office/tests", "desk/checks", "branch", "tools"],
+    "programs": ["programs"],
+    "branch": [".", "programs", "tools"],
+    "desk": [".", "programs", "tools"],
+    "office": [".", "programs", "tools"],
 }
 PLACE = re.compile(r"([^:]+):(\d+):")
 

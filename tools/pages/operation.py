@@ -7,7 +7,7 @@ A file names an operation whose name says nothing else if it has that as it is i
 `move_cash`, `MoveCash`. If the name is a common word, as that of a post, it has to stand where it is the operation's: in the path
 of one of its own files, in a word that the page has with FORM in it (`prepare_post`), after what begins an operation (`Op::Post`,
 `/do/post`), or within three lines of another operation. Of the crates only those of the product are read; the lists of their
-modules are left out. The operations, rules and commands are read from their definitions, the pages of the office from its menu.
+modules are left out, and so are links. The operations, rules and commands are read from their definitions, the pages of the office from its menu.
 
 `--check` compares tables of the page. A file in a table names all of its kind: all rules, all commands, all pages of the office, or all
 examples of operations. In a table of files that name some, each names at least one. The other way round, a file that names all of a
@@ -29,7 +29,7 @@ PAGE = "docs/ADDING.md"
 OWN = "| Where | Its own files | What they say |"
 SOME = "| Where | Files that name some |"
 EACH = "| Where | Files that name each {} | Its line there |"
-TERMS, NGINX, MENU = "crates/bank_terms/specs/", "branch/front/nginx.conf", "office/bank_office/templates/base.html"
+TERMS, NGINX, MENU = "crates/bank_terms/specs/", "branch/front/nginx.conf", "programs/tespiorvu/office/templates/base.html"
 COMMANDS = "crates/cli_words/specs/Commands.antt"
 # Operations with the crate of their plan, and those of all whose names say nothing else.
 CRATES = {
@@ -41,7 +41,7 @@ PLAIN = ("drawer-on", "drawer-off", "move-cash", "close-day", "new-account")
 JUDGED = ("post", "transfer", "correct", "drawer-on", "drawer-off", "close-day")
 # A page of the office whose name says nothing else.
 EXAMPLE = "reviews"
-READ = ("crates", "tools", "branch", "sample", "desk", "office")
+READ = ("crates", "tools", "branch", "programs", "sample", "desk", "office")
 FOLDERS = ("src", "specs", "proofs", "must-fail")
 PATH = re.compile(r"[\w-]+(?:/[\w*-]+)*(?:\.[\w.]+|/\*)")
 LEFT_OUT = ("lib.rt", "Lib.antt", "operation.py", "ADDING.md")
@@ -103,7 +103,7 @@ def read_texts() -> dict[str, str]:
     for folder in (*READ, "docs"):
         for path in glob.glob(os.path.join(TOP, folder, "**", "*"), recursive=True):
             short = os.path.relpath(path, TOP)
-            if os.path.isfile(path) and is_read(short):
+            if os.path.isfile(path) and not os.path.islink(path) and is_read(short):
                 found[short] = text_of(short)
     return found
 
@@ -169,9 +169,9 @@ def kinds() -> list[Kind]:
         Kind((OWN, EACH.format("operation")), (SOME,), READ, {it: names_operation(it) for it in PLAIN}),
         Kind((EACH.format("rule of a form"),), (), ("crates",), {it: names_rules_of(it) for it in JUDGED}),
         Kind((EACH.format("rule"),), (), ("crates", "desk/page", "docs", "tools"), names_of_rules(), all),
-        Kind((EACH.format("command"),), (), ("crates", "branch", "tools"), {it: has(word_of(it), forms_of(it)) for it in commands}, all),
-        Kind((EACH.format("page"),), (), ("office",), {it: has(rf"office/{it}\b", (it,)) for it in pages}, all),
-        Kind(("| Where | Files of a page | What they say |",), (EACH.format("page"),), ("office", "branch", "docs"), {EXAMPLE: names_page}),
+        Kind((EACH.format("command"),), (), ("crates", "branch", "programs", "tools"), {it: has(word_of(it), forms_of(it)) for it in commands}, all),
+        Kind((EACH.format("page"),), (), ("office", "programs"), {it: has(rf"office/{it}\b", (it,)) for it in pages}, all),
+        Kind(("| Where | Files of a page | What they say |",), (EACH.format("page"),), ("office", "branch", "programs", "docs"), {EXAMPLE: names_page}),
     ]
 
 

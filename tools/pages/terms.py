@@ -140,7 +140,7 @@ def below(pattern):
 def files():
     """The files that are held to it."""
     found = ["README.md", "CHANGELOG.md", "CONTRIBUTING.md", *below("docs/*.md")]
-    for it in ("tools", "branch", "desk", "office", "rows", "migrations", ".ci"):
+    for it in ("tools", "branch", "programs", "desk", "office", "rows", "migrations", ".ci"):
         found += below(f"{it}/**/*")
     found += [path for it in OF_CRATES for path in below(f"crates/*/**/*{it}")]
     return [it for it in found if os.path.isfile(os.path.join(TOP, it)) and not it.endswith((".txt", ".csv", ".png", ".gz"))]

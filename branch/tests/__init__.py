@@ -1,0 +1,1 @@
+"""Tests of the branch, which tools/run starts."""

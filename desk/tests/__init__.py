@@ -1,0 +1,1 @@
+"""Tests of the teller's page, which tools/run starts."""

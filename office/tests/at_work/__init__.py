@@ -1,0 +1,1 @@
+"""Checks of a day of the office beside a bank that is served."""
