@@ -135,3 +135,6 @@ def test_an_earlier_register_has_the_tables_of_a_new_one(tmp_path: Path) -> None
     with opened(tmp_path / "earlier") as found, opened(tmp_path / "new") as new:
         brought_up, made = columns_of(found), columns_of(new)
         assert {name: brought_up[name] for name in made} == made
+        for it in (found, new):  # else a sheet of many holders reads all names for each
+            plan = it.execute("EXPLAIN QUERY PLAN DELETE FROM name_words WHERE holder = 1").fetchone()["detail"]
+            assert "INDEX name_words_by_holder" in plan

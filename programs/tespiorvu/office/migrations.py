@@ -65,6 +65,11 @@ def more_of_holders(found: sqlite3.Connection) -> None:
     make_tables(found, (NOTES,))
 
 
+def words_by_holder(found: sqlite3.Connection) -> None:
+    """What a name is searched by is found by its holder: a sheet of many holders would read all of it for each."""
+    carry_out(found, "CREATE INDEX name_words_by_holder ON name_words (holder);")
+
+
 Step = Callable[[sqlite3.Connection], None]
 CHANGES = "schema_changes.sql"
 NOTES = "schema_notes.sql"
@@ -83,7 +88,7 @@ class Tables(NamedTuple):
 
 
 # Runs were in the register's file once. There they stay, for the file of runs to take them over.
-REGISTER = Tables(("schema.sql", CHANGES, NOTES), (parts_of_requests, chained_changes, more_of_holders))
+REGISTER = Tables(("schema.sql", CHANGES, NOTES), (parts_of_requests, chained_changes, more_of_holders, words_by_holder))
 RUNS = Tables(("schema_runs.sql", CHANGES))
 
 

@@ -12,6 +12,7 @@ CREATE TABLE IF NOT EXISTS holdings (
 CREATE TABLE IF NOT EXISTS users (badge TEXT PRIMARY KEY, user INTEGER NOT NULL, name TEXT NOT NULL) STRICT, WITHOUT ROWID;
 -- The words of each holder's name, without accents and in small letters, for the search.
 CREATE TABLE IF NOT EXISTS name_words (word TEXT NOT NULL, holder INTEGER NOT NULL, PRIMARY KEY (word, holder)) STRICT, WITHOUT ROWID;
+CREATE INDEX IF NOT EXISTS name_words_by_holder ON name_words (holder);
 -- Requests that wait for others: for a release of each of their operations, or for a colleague who makes the correction. `numbers`
 -- has that of each release, or of the entry that corrects. A claim is one supervisor's until its end; `lapsed` has the badges whose
 -- claim ran out without an answer.
