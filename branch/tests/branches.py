@@ -48,6 +48,9 @@ CURL_LATE = 28
 # Changes of the front's settings that lift its limits per certificate.
 NO_RATE = [("limit_req zone=by_certificate burst=40 nodelay;", ""), ("limit_conn open_by_certificate 20;", ""),
            ("limit_req zone=files_by_certificate burst=400 nodelay;", "")]
+# The names of a branch: the bank's, and that of the office's pages.
+NAMES = "localhost", "office.localhost"
+AT_THE_BANK = re.compile(r"/office/(api/|runs\b)")
 # What begins a certificate of a new key, or a request for one.
 NEW_KEY = ("openssl", "req", "-new", "-newkey", "ec", "-pkeyopt", "ec_paramgen_curve:P-256", "-nodes")
 # What the package has of this folder, beside the units.
@@ -61,6 +64,11 @@ def missing():
     """What a branch lacks on this machine, each with the package of Debian that has it."""
     echo = re.search(r"^load_module (\S+);", (HERE / "front/nginx.conf").read_text(), re.MULTILINE)[1]
     return lacking(PACKAGES, PATH) + ([] if os.path.exists(echo) else [f"{echo} (package libnginx-mod-http-echo)"])
+
+
+def is_page_of_office(path):
+    """Whether a path is of the office's pages, which have a name of their own."""
+    return path.startswith("/office/") and not AT_THE_BANK.match(path)
 
 
 def write_lists(folder):
@@ -294,7 +302,7 @@ class Branch:
         door = socket.create_server(("127.0.0.1", 0), backlog=1024)
         door.setblocking(False)
         self.port, self.bank_port = door.getsockname()[1], free_port() if tcp else None
-        self.url = f"https://localhost:{self.port}"
+        self.url, self.office_url = (f"https://{name}:{self.port}" for name in NAMES)
         self.sessions = {}
         self.kept, self.bank, self.socket, self.starts, self.ends = False, None, None, 0, []
         if room:
@@ -463,11 +471,15 @@ class Branch:
         for field in fields:
             command += ["-H", field]
         given = ["--data-binary", "@-"] if body is not None else []
-        asked = ended(*command, *given, f"{self.url}{path}", input=body)
+        asked = ended(*command, *given, f"{self.url_of(path)}{path}", input=body)
         if asked.returncode == CURL_LATE:
             raise Late(f"{path}: no reply in time")
         text, _, status = asked.stdout.rpartition("\n")
         return int(status), text
+
+    def url_of(self, path):
+        """Where a path is answered: the office's pages have a name of their own."""
+        return self.office_url if is_page_of_office(path) else self.url
 
     def begin(self, who, drawer=True):
         """Opens a session for a badge; a teller puts their drawer on, too."""

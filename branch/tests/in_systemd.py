@@ -25,7 +25,7 @@ from functools import partial
 from pathlib import Path
 
 from branch.tests.blocks import DOCS, blocks, require_carried_out, script_of
-from branch.tests.branches import PATIENCE, TELLERS, write_lists
+from branch.tests.branches import PATIENCE, TELLERS, is_page_of_office, write_lists
 from branch.tests.commands import ended, packed
 from checks import Check, Late, Report, reader, require, wait_until
 
@@ -133,8 +133,9 @@ class Machine:
     def curl(self, who, path, body, *more):
         """A command that asks as a teller, from that machine."""
         tellers = f"/root/authority/tellers/{who}"
-        shown = f"--cert {tellers}.pem --key {tellers}.key --cacert /root/authority/front/authority.pem --resolve bank.branch:443:127.0.0.1"
-        return f"curl -sS --http1.1 --max-time 60 {shown} {' '.join(more)} -H 'Bank-Session: 1' -d '{body}' https://bank.branch{path}"
+        host = "office.bank.branch" if is_page_of_office(path.strip('"')) else "bank.branch"
+        shown = f"--cert {tellers}.pem --key {tellers}.key --cacert /root/authority/front/authority.pem --resolve {host}:443:127.0.0.1"
+        return f"curl -sS --http1.1 --max-time 60 {shown} {' '.join(more)} -H 'Bank-Session: 1' -d '{body}' https://{host}{path}"
 
     def asked(self, who, path, body):
         return self.done(self.curl(who, path, body, "-f"))

@@ -41,7 +41,7 @@ class Browser:
 
     def __init__(self, relay, folder):
         self.relay, self.folder = relay, Path(folder)
-        self.url = f"http://127.0.0.1:{relay.server_port}/"
+        self.url = f"{relay.url}/"
         self.folder.mkdir(exist_ok=True)
         self.driver = self.begun()
         self.size(1280, 800)

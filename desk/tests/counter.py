@@ -10,7 +10,7 @@ import threading
 import time
 from pathlib import Path
 
-from branch.tests.branches import PATIENCE, Branch
+from branch.tests.branches import NAMES, PATIENCE, Branch, Client
 from checks import wait_until
 
 DESK = Path(__file__).resolve().parent.parent
@@ -23,6 +23,8 @@ TYPES = {".html": "text/html; charset=utf-8", ".js": "text/javascript; charset=u
 # What belongs to one connection, and what a browser would keep for this host.
 OWN_FIELDS = {"connection", "content-length", "host", "keep-alive", "strict-transport-security", "transfer-encoding"}
 
+# The names by which a browser reaches a relay, of the same site as those of a branch: the bank's, and that of the office's pages.
+OWN_NAMES = "bank.localhost", "office.bank.localhost"
 # The front ends a connection on which nobody asked for some minutes, so after this many seconds another is made.
 OLD = 60
 
@@ -37,12 +39,6 @@ class Served(Branch):
     def __init__(self, files, name, count, changes=()):
         self.relays = [Relay(self, files) for _ in range(count)]
         super().__init__(files, name, changes, bank=False)
-
-    def write_settings(self, changes):
-        """The front's settings, by which pages of the relays are its own."""
-        super().write_settings(changes)
-        with open(self.folder / "etc/origins.map", "a", encoding="ascii") as file:
-            file.writelines(f'"http://127.0.0.1:{it.server_port}" own;\n' for it in self.relays)
 
     def sql(self, query, *values):
         """What the bank's file has. It is locked while it is served, so a copy is read, with its log."""
@@ -105,6 +101,8 @@ class Relay(http.server.ThreadingHTTPServer):
     def __init__(self, counter, files):
         super().__init__(("127.0.0.1", 0), Handler)
         self.counter, self.card = counter, "tess"
+        self.names = [f"{it}:{self.server_port}" for it in OWN_NAMES]
+        self.url, self.office_url = (f"http://{it}" for it in self.names)
         self.context = functools.lru_cache(maxsize=None)(files.context)
         self.swaps, self.passed = {}, []
         self.calm()
@@ -115,13 +113,20 @@ class Relay(http.server.ThreadingHTTPServer):
         self.before = self.after = lambda *_: None
         self.seconds_ahead = 0
 
+    def translated(self, value, is_from_front):
+        """A field of a request or reply: the browser has the relay's addresses in it, and the front its own."""
+        pairs = [(f"http://{own}", url) for own, url in zip(self.names, (self.counter.url, self.counter.office_url))]
+        for own, url in pairs:
+            value = value.replace(*((url, own) if is_from_front else (own, url)))
+        return value
+
     def handle_error(self, request, client_address):
         """A browser that is killed, or leaves early, is no error."""
 
 
 class Handler(http.server.BaseHTTPRequestHandler):
     protocol_version = "HTTP/1.1"
-    front, card, asked_at = None, None, 0
+    front, card, name, asked_at = None, None, None, 0
 
     def do_GET(self):
         path = self.path.partition("?")[0]
@@ -166,11 +171,11 @@ class Handler(http.server.BaseHTTPRequestHandler):
         """The front's reply, on a connection that shows the card which is in."""
         is_old = time.monotonic() - self.asked_at > OLD
         self.asked_at = time.monotonic()
-        if self.card != self.server.card or self.front is None or is_old:
-            self.card = self.server.card
-            port = self.server.counter.port
-            self.front = http.client.HTTPSConnection("localhost", port, timeout=90, context=self.server.context(self.card))
-        fields = {name: value for name, value in self.headers.items() if name.lower() not in OWN_FIELDS}
+        name = NAMES[self.server.names.index(self.headers["Host"])]
+        if (self.card, self.name) != (self.server.card, name) or self.front is None or is_old:
+            self.card, self.name = self.server.card, name
+            self.front = Client(self.server.context(self.card), 0, self.server.counter.port, name, "127.0.0.1")
+        fields = {name: self.server.translated(value, False) for name, value in self.headers.items() if name.lower() not in OWN_FIELDS}
         try:
             self.front.request(self.command, self.path, body if self.command == "POST" else None, fields)
             reply = self.front.getresponse()
@@ -178,7 +183,8 @@ class Handler(http.server.BaseHTTPRequestHandler):
         except (OSError, http.client.HTTPException) as error:
             self.front = None
             raise Cut from error
-        return reply.status, [(name, value) for name, value in reply.getheaders() if name.lower() not in OWN_FIELDS], text
+        given = [(name, self.server.translated(value, True)) for name, value in reply.getheaders() if name.lower() not in OWN_FIELDS]
+        return reply.status, given, text
 
     def log_message(self, *_):
         pass

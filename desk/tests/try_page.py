@@ -46,7 +46,7 @@ class TryPage(Day):
                           for port, badge in re.findall(rf"^http://{HOST}:(\d+)/ (\w+)$", self.lines, re.MULTILINE)}
             self.half = socket.create_connection((HOST, self.ports["tess"]))
             self.half.sendall(HALF % (HOST.encode(), self.ports["tess"]))
-            self.desk = browser(SimpleNamespace(server_port=self.ports["tess"]), self.folder)
+            self.desk = browser(SimpleNamespace(url=f"http://127.0.0.1:{self.ports['tess']}"), self.folder)
         except BaseException:
             self.close()
             raise

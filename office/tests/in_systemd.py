@@ -181,7 +181,7 @@ def purged(machine: Any) -> None:
     machine.done("DEBIAN_FRONTEND=noninteractive apt-get purge -y tespiorvu-office; systemctl reload bank-front")
     require(machine.done(kept), before, "what a purge leaves")
     require(machine.sh(f"ls {SETTINGS} /etc/bank-front/*office* /etc/systemd/system/*/bank-office*; pgrep gunicorn").stdout, "", "what it removes")
-    require(machine.status_of("tess", "/office/api/here", ""), 503, "no office")
+    require(machine.status_of("tess", "/office/api/here", "", "-G"), 503, "no office")
     balance = f'{{"balance":{52_500 + sum(brought_up.POSTS)}}}'
     require(machine.asked("tess", "/do/balance", '{"account":101}'), balance, "the counter")
 

@@ -38,6 +38,7 @@ DAY = {
     "screens": "names_at_the_counter release_on_the_page amount_in_parts pages".split(),
     "at_two_desks": "large_release taken_back handed".split(),
     "at_the_counter": "beside_an_account purpose new_customer".split(),
+    "taken_over": ["taken_over"],
 }
 # The name of all parts together, where pytest can't list them.
 PARTS = "parts"

@@ -221,3 +221,11 @@ def test_a_correction_waits_for_a_colleague(office: Office) -> None:
     assert [len(office.ask(badge, "/office/api/queue").json["waiting"]) for badge in ("tess", "tom", "sue")] == [0, 1, 0]
     assert office.api("sue", f"asks/{number}/answer", {"number": 2}).status_code == 422
     assert office.api("tom", f"asks/{number}/answer", {"number": 2}).json["state"] == "done"
+
+
+def test_the_front_names_each_path_that_the_tellers_page_asks(office: Office) -> None:
+    front = Path(__file__).resolve().parent.parent / "front/services/office.conf"
+    named = re.findall(r"^location (?:~|=) (\S+) \{", front.read_text(encoding="utf-8"), re.MULTILINE)
+    paths = {re.sub(r"<number:\w+>", "7", it.rule) for it in office.app.url_map.iter_rules()}
+    unknown = [it for it in paths if it.startswith("/office/api/") and not any(re.fullmatch(name, it) for name in named)]
+    assert unknown == [] and not any(re.fullmatch(name, "/office/api/holders") for name in named)

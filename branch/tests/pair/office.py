@@ -11,7 +11,7 @@ import time
 from pathlib import Path
 from typing import NamedTuple
 
-from branch.tests.branches import TELLERS, USERS
+from branch.tests.branches import TELLERS, USERS, is_page_of_office
 from checks import Wrong, require, wait_until
 from branch.tests.pair.branch_pair import Pair
 from branch.tests.pair.comparison import COPY, compare, sql
@@ -58,20 +58,22 @@ class Pages:
     """The office's pages, by a badge's card."""
 
     def __init__(self, authority: Path, who: str) -> None:
-        self.client = client_of(authority, who)
-        self.fields = {"Origin": f"https://{HOST}", "Sec-Fetch-Site": "same-origin", "Desk-Badge": who}
+        self.clients = {it: client_of(authority, who, host=it) for it in (HOST, f"office.{HOST}")}
+        self.fields = {"Sec-Fetch-Site": "same-origin", "Desk-Badge": who}
 
     def ask(self, method: str, path: str, body: bytes = b"", kind: str = "") -> tuple[int, str]:
         """Status and body of a reply, by a connection of its own."""
+        path = f"/office/{path}"
+        client = self.clients[f"office.{HOST}" if is_page_of_office(path) else HOST]
         try:
             kinds = {"Content-Type": kind} if kind else {}
-            self.client.request(method, f"/office/{path}", body, {**self.fields, **kinds})
-            reply = self.client.getresponse()
+            client.request(method, path, body, {**self.fields, **kinds})
+            reply = client.getresponse()
             return reply.status, reply.read().decode()
         except (OSError, http.client.HTTPException) as error:
             return 0, str(error)
         finally:
-            self.client.close()
+            client.close()
 
     def get(self, path: str) -> str:
         """A page."""

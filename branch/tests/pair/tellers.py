@@ -19,9 +19,9 @@ PROBERS = {TELLERS[4]: "a", TELLERS[5]: "b"}
 PAUSE, PATIENCE, PROBE_PATIENCE = 0.25, 8, 2
 
 
-def client_of(authority: Path, who: str, address: str = ADDRESS, seconds: float = 60) -> Client:
-    """A teller at an address, who waits so long for a reply."""
-    return Client(context_of(authority, who), 1, 443, HOST, address, seconds, 2)
+def client_of(authority: Path, who: str, address: str = ADDRESS, seconds: float = 60, host: str = HOST) -> Client:
+    """A teller at an address, by a name of the branch, who waits at most these seconds for a reply."""
+    return Client(context_of(authority, who), 1, 443, host, address, seconds, 2)
 
 
 class Acknowledged(NamedTuple):

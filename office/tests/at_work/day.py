@@ -190,7 +190,7 @@ class Day:
         assert token is not None
         more = [word for name, text in {"token": token[1], **fields}.items()
                 for word in ("-F" if text.startswith("@") else "--form-string", f"{name}={text}")]  # fmt: skip
-        own_site = (f"Origin: {self.branch.url}", "Sec-Fetch-Site: same-origin")
+        own_site = (f"Origin: {self.branch.url_of(f'/office/{path}')}", "Sec-Fetch-Site: same-origin")
         status, text = self.branch.ask(who, f"/office/{path}", fields=own_site, more=more)
         require(status in (303, 403, 422), True, f"{path} of {who}: {status} {text[-300:]}")
         return int(status)

@@ -6,13 +6,12 @@ import json
 import os
 import re
 import signal
-import socket
 import threading
 from concurrent.futures import ThreadPoolExecutor
 from pathlib import Path
 from typing import Any
 
-from branch.tests.commands import ran, run
+from branch.tests.commands import ran
 from checks import require, wait_until
 from office.tests.at_work.day import Day
 
@@ -26,9 +25,6 @@ YESTERDAY = TODAY - datetime.timedelta(1)
 # The first day of the bank, which is all of its first year, and the name of that year in the office.
 BEGAN = datetime.date(2025, 6, 2)
 FIRST_YEAR = f"{BEGAN}-to-{BEGAN}"
-# The fields by which a reply has a browser do something beside its page; and what forbids that a page acts by a script.
-ORDERS = ("Clear-Site-Data", "Link", "Refresh", "Set-Cookie")
-NO_SCRIPT = ("script-src 'none'", "connect-src 'none'")
 
 
 def absent(day: Day) -> None:
@@ -310,27 +306,6 @@ def apart(day: Day) -> None:
         require(sockets, ["bank-front", "0660"], f"who opens the socket of {name}")
 
 
-def by_another(day: Day) -> str:
-    """What a browser gets of a program in the office's place that sends these fields."""
-    fields = "".join(f"{it}: /\r\n" for it in ORDERS)
-    reply = f"HTTP/1.1 200 OK\r\n{fields}Content-Length: 2\r\nConnection: close\r\n\r\nok"
-    place = day.sockets["bank-office"]
-    place.unlink(missing_ok=True)
-
-    def answer() -> None:
-        with door.accept()[0] as client:
-            client.recv(65_536)
-            client.sendall(reply.encode())
-
-    with socket.socket(socket.AF_UNIX) as door, ThreadPoolExecutor(1) as pool:
-        door.bind(str(place))
-        door.listen()
-        pool.submit(answer)
-        got = run(*day.branch.curl("amy", "-i", f"{day.branch.url}/office/users"))
-    require([it for it in NO_SCRIPT if it not in got] + ["ok"] * (not got.endswith("ok")), [], f"what the front says of it: {got}")
-    return got
-
-
 def killed(day: Day) -> None:
     """A service that is killed leaves the counter working, and starts with all it kept."""
     before = day.get("kim", "sheets/holders.csv")
@@ -340,7 +315,6 @@ def killed(day: Day) -> None:
     wait_until(lambda: day.branch.ask("amy", "/office/users")[0] != 200, 60, "its workers have seen that, and end")
     require(day.branch.ask("amy", "/do/balance", {"account": 101})[0], 200, "the counter works")
     require(day.branch.ask("sue", "/office/runs")[0], 200, "runs go on")
-    require([it for it in ORDERS if it in by_another(day)], [], "orders to a browser that the front passes on")
     day.start("bank-office")
     require(day.get("kim", "sheets/holders.csv"), before, "what it kept")
     for what in ("register", "runs"):

@@ -250,9 +250,9 @@ def add_words(app: Flask) -> None:
     app.jinja_env.filters["user"] = user_name
 
 
-def app_of(settings: Settings, file: Path, kind: type[Desk], all_pages: Iterable[Blueprint]) -> Flask:
-    """A service of these pages, whose forms are signed by a key beside a file."""
-    app = Flask(__name__, static_url_path="/office/static")
+def app_of(settings: Settings, file: Path, kind: type[Desk], all_pages: Iterable[Blueprint], top: str = "/office") -> Flask:
+    """A service of these pages, all of them below a path, whose forms are signed by a key beside a file."""
+    app = Flask(__name__, static_url_path=f"{top}/static")
     app.config["MAX_CONTENT_LENGTH"] = MOST_BYTES
     app.url_map.converters["number"] = Number
     app.jinja_env.trim_blocks = app.jinja_env.lstrip_blocks = True

@@ -44,7 +44,7 @@ def make_runs_app(settings: Settings) -> Flask:
     from . import pages_runs
 
     apart.require_apart(settings, settings.approvers)
-    return app_of(settings, settings.runs, RunsDesk, (pages_runs.pages,))
+    return app_of(settings, settings.runs, RunsDesk, (pages_runs.pages,), "/office/runs")
 
 
 def application() -> Flask:
