@@ -48,7 +48,10 @@ def opened(source):
     return made
 held = [it for it in (opened("10.9.0.2") for _ in range(150)) if it]
 time.sleep(2)
-print(len(held), sum(opened("10.9.0.2") is not None for _ in range(3)), sum(opened("10.9.0.3") is not None for _ in range(1)))
+of_another = opened("10.9.0.3")
+print(len(held), sum(opened("10.9.0.2") is not None for _ in range(3)), of_another is not None)
+more = [it for k in range(4, 8) for it in (opened(f"10.9.0.{k}") for _ in range(60)) if it]
+print(len(held + more), opened("10.9.0.8") is not None)
 """
 BOOT = r"""
 set -e
@@ -339,17 +342,17 @@ def full_disk(machines):
 
 
 def addresses_are_limited(machines):
-    """One address of the network holds as many connections as limits.conf says, and another is answered meanwhile; another table of
-    nftables stays as it is."""
+    """One address of the network holds as many connections as limits.conf says, and another is answered meanwhile; a card with all its
+    addresses holds as many as that says; another table of nftables stays as it is."""
     machine = machines.machine("six")
     machine.done("""nft add table ip mine
         unshare --net sleep 600 >/dev/null 2>&1 & sleep 0.5; other=$!
         ip link add mine0 type veth peer name mine1 netns $other
         ip address add 10.9.0.1/24 dev mine0; ip link set mine0 up
-        nsenter -t $other -n sh -c 'ip address add 10.9.0.2/24 dev mine1; ip address add 10.9.0.3/24 dev mine1; ip link set mine1 up'
+        nsenter -t $other -n sh -c 'for k in $(seq 2 8); do ip address add 10.9.0.$k/24 dev mine1; done; ip link set mine1 up'
         echo $other >/run/other""")
     held = machine.done(f"nsenter -t $(cat /run/other) -n python3 -c '{HOLDING}'")
-    require(held.split(), ["100", "0", "1"], "connections of an address, more of it a while later, and of another")
+    require(held.split(), ["100", "0", "True", "299", "False"], "connections of an address, more of it a while later, of another; of all of the card, and one more")
     require(machine.done("systemctl restart bank-limits; nft list tables").splitlines().count("table ip mine"), 1, "a table of others")
     machine.done("systemctl stop bank-limits; ! nft list table ip bank_front; systemctl start bank-limits; kill $(cat /run/other)")
 
