@@ -10,7 +10,7 @@ import threading
 import time
 from pathlib import Path
 
-from branch.tests.branches import NAMES, PATIENCE, Branch, Client
+from branch.tests.branches import NAMES, NO_RATE, PATIENCE, Branch, Client
 from checks import wait_until
 
 DESK = Path(__file__).resolve().parent.parent
@@ -77,7 +77,7 @@ class Counter(Served):
         files.certificates("begin", "localhost")
         for badge in BADGES:
             files.certificates("teller", badge)
-        super().__init__(files, "counter", 2)
+        super().__init__(files, "counter", 2, NO_RATE[2:])  # the page is loaded as often as nobody loads it
         self.relay, self.other = self.relays
         shutil.rmtree(self.folder / "lists")
         (self.folder / "lists").mkdir()
