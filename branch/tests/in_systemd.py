@@ -102,7 +102,7 @@ class Machine:
         folder = self.top / "folder"
         (folder / "next").mkdir(parents=True)
         for files, to in zip(packages, (folder, folder / "next")):
-            for file in files:
+            for file in (*files, files[0].with_name("SHA256SUMS")):
                 shutil.copy(file, to)
         write_lists(folder / "six")
         groups = re.search(r"^\S+ (\S+) cgroup2 ", Path("/proc/mounts").read_text(), re.MULTILINE)[1]
@@ -443,7 +443,7 @@ def make_all(description, checks):
     signal.signal(signal.SIGTERM, lambda *_: sys.exit(1)) # so that the machines are ended, too
     report = Report(len(checks))
     with tempfile.TemporaryDirectory(prefix="in-systemd-packages-") as made:
-        machines = Machines([packed(given.program, made, "--revision", it) for it in ("1", "2")], given.root)
+        machines = Machines([packed(given.program, f"{made}/{it}", "--revision", it) for it in ("1", "2")], given.root)
         try:
             for it in checks:
                 before = report.failed

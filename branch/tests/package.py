@@ -11,6 +11,7 @@ import os
 import re
 import shutil
 import sys
+import tempfile
 from pathlib import Path
 
 from branch.tests.branches import HERE
@@ -254,6 +255,27 @@ def sums_are_signed(package):
         (room / name).write_bytes(before)
 
 
+def signed_and_no_lower():
+    """Of a folder with more packages than SHA256SUMS names, the pages install those that it names; and the scripts of
+    both packages refuse a version that is lower than the installed one. Nothing is packed for this."""
+    signed = one, office = "tespiorvu_1.0.0-2_amd64.deb", "tespiorvu-office_1.0.0-2_all.deb"
+    with tempfile.TemporaryDirectory() as room:
+        for it in (*signed, "tespiorvu_1.0.1-1_amd64.deb", "tespiorvu-office_1.0.1-1_all.deb"):
+            Path(room, it).touch()
+        Path(room, "SHA256SUMS").write_text("".join(f"{'0' * 64}  {it}\n" for it in signed))
+        for page, wanted in {"BRANCH": [[one]], "OFFICE": [[office]], "TWO-MACHINES": [[one], [one, office]]}.items():
+            text = (TOP / f"docs/{page}.md").read_text()
+            lines = re.findall(r"^apt-get install -y (.*(?:SHA256SUMS\)|\.deb))", text, re.MULTILINE)
+            said = [run("sh", "-c", f"echo {it}", cwd=room).split() for it in lines]
+            require(said, [[f"./{name}" for name in it] for it in wanted], f"what {page}.md installs")
+    for name in ("preinst", "tespiorvu-office.preinst"):
+        script = HERE / "debian" / name
+        status, said = ran("sh", script, "upgrade", "1.0.0-10", "1.0.0-9")
+        require((status, "1.0.0-9 is lower than 1.0.0-10" in said), (1, True), f"{name}: {said}")
+        for words in ("upgrade 1.0.0-9 1.0.0-10", "upgrade 1.0.0-9 1.0.0-9", "install 1.0.0-10 1.0.0-9", "install"):
+            require(ran("sh", script, *words.split()), (0, ""), f"{name} {words}")
+
+
 def refusals(package):
     """A program that does not say that it was proved is not packed, nor is a tree that is not as committed."""
     status, said = package.release("--program", "/bin/true", package.room / "refused")
@@ -277,7 +299,8 @@ def main():
     def checks_of(room):
         """All that is tried, over one package."""
         package = functools.cache(lambda: Package(given.program, Path(room)))
-        return [Check(it.__name__, lambda it=it: it(package()), lacks) for it in CHECKS]
+        return [Check(signed_and_no_lower.__name__, signed_and_no_lower),
+                *(Check(it.__name__, lambda it=it: it(package()), lacks) for it in CHECKS)]
 
     return run_checks(given, checks_of, programs=[] if lacks else None)
 

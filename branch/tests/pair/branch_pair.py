@@ -57,7 +57,7 @@ class Pair:
         brought = self.folder / "brought"
         shutil.rmtree(brought, ignore_errors=True)
         brought.mkdir()
-        for package in packages:
+        for package in (*packages, packages[0].with_name("SHA256SUMS")):
             shutil.copy(package, brought)
         write_lists(brought / "lists")
         self.all_on()
