@@ -2,6 +2,7 @@
 import os
 import shutil
 from collections.abc import Callable
+from functools import partial
 from pathlib import Path
 
 from branch.tests.branches import PATH, Files
@@ -51,13 +52,29 @@ def evidence_verifies(files: Files) -> None:
         file.write("eve,7\n")
     require(shell(verifies[0], folder)[0], 1, "the sums of a list of badges that was changed")
     require(month.run("evidence", folder).returncode, 2, "a folder that is there")
-    places = (month.bank / "2025", month.bank / "2026/bank.sha256", month.seals / "000009.json")
-    for place in (month.trail / "audit.log-x", *places):
-        place.unlink(missing_ok=True)
-        place.symlink_to(month.folder / "etc/bank-seal/seal.key")
-        ended = month.run("evidence", month.folder / f"by-{place.name}")
-        require((ended.returncode, f"{place} is a link" in ended.stderr), (1, True), f"a link to a key: {ended}")
+    no_key_is_taken(month)
+
+
+def no_key_is_taken(month: Month) -> None:
+    """A link to a key, wherever a service user can write, is refused; so are an odd name, a pipe, and a key."""
+    key, log = month.folder / "etc/bank-seal/seal.key", month.trail / "audit.log-x"
+    read = {month.trail: "audit.log-x policy.log-x", month.copies: "99990101T000000Z-checked", month.bank: "2025",
+            month.checked()[-1]: "bank bank.sha256 accepted differs", month.bank / "2026": "bank bank-wal bank.sha256",
+            month.seals: "000009.json 000009.sig 000009.tsr public.pem"}  # fmt: skip
+    cases: list[tuple[Path, Callable[[Path], object], str]] = [
+        *((it / name, partial(os.symlink, key), "is a link") for it, names in read.items() for name in names.split()),
+        (log.with_name("audit.log-\n"), Path.touch, "has an odd name"), (log, os.mkfifo, "is no file"),
+        (log, partial(shutil.copy, key), "this is a key")]  # fmt: skip
+    for number, (place, plant, why) in enumerate(cases):
+        aside = place.exists()
+        if aside:
+            place.rename(month.folder / "aside")
+        plant(place)
+        ended = month.run("evidence", month.folder / f"by-{number}")
+        require((ended.returncode, why in ended.stderr), (1, True), f"{place}: {ended}")
         place.unlink()
+        if aside:
+            (month.folder / "aside").rename(place)
 
 
 def write_protected_file(files: Files) -> None:
