@@ -54,7 +54,7 @@ AT_THE_BANK = re.compile(r"/office/(api/|runs\b)")
 # What begins a certificate of a new key, or a request for one.
 NEW_KEY = ("openssl", "req", "-new", "-newkey", "ec", "-pkeyopt", "ec_paramgen_curve:P-256", "-nodes")
 # What the package has of this folder, beside the units.
-COMMANDS = ("certificates", "evidence", "check-file", "forward", "bank-gather", "bank-fetch", "bank-bring-up")
+COMMANDS = ("certificates", "evidence", "check-file", "forward", "bank-fetch")
 SHARED = ("VERIFY.txt", "parts")
 # The pipes of the trail, in the order in which they are handed over.
 PIPES = ("audit", "refused", "policy")

@@ -189,11 +189,19 @@ def page(machines):
     seconds = machine.lines([it for it in found if it[0] == "sh"])[first_post(found)]
     print(f"    {seconds} seconds to the first post")
     require(seconds <= MOST_SECONDS, True, f"{seconds} seconds to the first post")
-    machine.done("cp -r /root/moved /run/folder/moved")
     other = machines.machine("other")
-    shutil.copytree(machine.top / "folder/moved", other.top / "folder/moved")
-    other.done("cp -r /run/folder/moved /root/moved")
-    other.lines([found[0], *[it for it in found if it[0] == "sh new"]])
+    for it in ("moved", "authority"):
+        machine.done(f"cp -r /root/{it} /run/folder/{it}")
+        shutil.copytree(machine.top / "folder" / it, other.top / "folder" / it)
+    other.done("cp -r /run/folder/moved /run/folder/authority /root")
+    other.lines([found[0], *lines_there(machine, found)])
+    other.asked("tess", "/session", "")
+
+
+def lines_there(machine, found):
+    """The blocks for another machine, with the authority, and the characters on a machine's paper."""
+    paper = machine.done("sed 's/.*: //' /root/public-key")
+    return [it._replace(lines=f"ca=/root/authority paper={paper}\n{it.lines}") for it in found if it.mark == "sh new"]
 
 
 def install(machines):

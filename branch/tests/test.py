@@ -32,7 +32,7 @@ from pathlib import Path
 from branch.tests.branches import NO_RATE, PATH, PATIENCE, PIPES, TELLERS, USERS, Branch, Files, Machine, missing
 from branch.tests.branches import self_signed
 from branch.tests.commands import printed, ran, run, said_of
-from branch.tests.gathered import gathered_and_brought_up, years_by_content
+from branch.tests.gathered import gathered_and_brought_up, only_files_are_gathered, years_by_content
 from branch.tests.people import people_come_and_go
 from checks import Check, Late, Wrong, is_chosen, only_of, reader, require, require_time, run_named, wait_until
 from branch.tests.evidence_checks import CHECKS as EVIDENCE_CHECKS
@@ -57,6 +57,8 @@ HELD = 2_100
 FLOOD_SECONDS = 10
 # How many seconds a teller lets pass before the next post, below the rate that the front lets in.
 BETWEEN_POSTS = 0.1
+# What reads the key of the seals, to sign the seals and the night that is gathered.
+SIGNING = "bank-seal.service", "bank-gather.service"
 
 
 def head(path, *fields, method="POST"):
@@ -826,7 +828,7 @@ def units_are_the_banks_alone(files):
         found = settings_of(it)
         reads = it.name == "bank-seal.service" or "CAP_DAC" in "".join(found.get("CapabilityBoundingSet", ["CAP_DAC"]))
         is_out = "-/etc/bank-seal" in " ".join(found["InaccessiblePaths"]).split() if "InaccessiblePaths" in found else False
-        require(reads and not is_out, it.name == "bank-seal.service", f"whether {it.name} reads the key of the seals")
+        require(reads and not is_out, it.name in SIGNING, f"whether {it.name} reads the key of the seals")
     front = settings_of(units / "bank-front.service")
     most = int(re.search(r"worker_connections (\d+);", (files.top / "front/nginx.conf").read_text())[1])
     require((int(front["LimitNOFILE"][0]), "LogsDirectory" in front), (2 * most, False), "what the front may open, and that it has no files")
@@ -1028,7 +1030,7 @@ ON_ONE = [six_tellers_at_once, forged_badges, certificates_refused, certificates
 BUSY = [copies_of_a_killed_bank, damaged_copies, copies_of_other_hours, copies_are_on_the_disk_before_they_are_named,
         units_are_the_banks_alone, clock_set_back, room_again, trail_without_room, trail_starts_anew, torn_lines,
         flood_without_a_certificate, held_connections, restarts, restarts_of_six, without_slips, years_by_content,
-        gathered_and_brought_up, people_come_and_go]
+        gathered_and_brought_up, only_files_are_gathered, people_come_and_go]
 NIGHTS = [*NIGHT_CHECKS, *PAIR_CHECKS, *SEAL_CHECKS, *POLICY_CHECKS, *RIGHTS_CHECKS, *EVIDENCE_CHECKS]
 WAITING = [certificate_that_has_ended, bank_silent, bank_down, bank_that_takes_and_dies, rate, open_at_once]
 

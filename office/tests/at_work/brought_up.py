@@ -6,7 +6,7 @@ from pathlib import Path
 from typing import Any
 
 from branch.tests.blocks import blocks, lines_of
-from branch.tests.in_systemd import INSTALL, PAGE
+from branch.tests.in_systemd import INSTALL, PAGE, lines_there
 from checks import require, wait_until
 
 COPIES, GATHERED, FETCHED = "/var/lib/bank-office-copies", "/var/lib/bank-gathered", "/var/lib/bank-fetched"
@@ -76,8 +76,10 @@ def fetched(machines: Any) -> None:
     machine.done(f"cd /run/folder; {lines_of(PAGE, 'sh third', 'authorized_keys')}mkdir -p /run/sshd && ssh-keygen -A && /usr/sbin/sshd")
     host_key = machine.done("cut -d ' ' -f 1,2 /etc/ssh/ssh_host_ed25519_key.pub")
     third.done(f"echo 'bank.branch {host_key}' >/root/.ssh/known_hosts")
-    machine.done(lines_of(PAGE, "sh", "start bank-gather"))
+    machine.done(f"bank-seal begin >/root/public-key\n{lines_of(PAGE, 'sh', 'start bank-gather')}")
     third.done("systemctl reset-failed; systemctl start bank-fetch")
+    printed = machine.done("sed 's/.*: //' /root/public-key")
+    require(third.done(f"cat {FETCHED}/public-key"), printed, "the key that is compared with paper")
     require(third.done(f"cat {FETCHED}/*/made"), machine.done(f"cat {GATHERED}/newest/made"), "the night that was fetched")
     refused = third.sh("ssh -o BatchMode=yes bank-fetch@bank.branch cat /etc/passwd")
     require((refused.returncode != 0, refused.stdout), (True, ""), f"another order by that key: {refused.stderr}")
@@ -86,12 +88,12 @@ def fetched(machines: Any) -> None:
 def found_again(machines: Any) -> None:
     """A new machine is brought up from it: a name is found, a statement adds up over the years, and the trail explains an entry."""
     third, new = machines.machine("third"), machines.machine("new")
-    third.done(f"cp -a {FETCHED}/* /run/folder/moved")
+    third.done(f"cp -a {FETCHED}/2* /run/folder/moved")
     shutil.copytree(third.top / "folder/moved", new.top / "folder/moved", symlinks=True)
     machines.machine("branch").done("cp -a /root/authority /run/folder/authority")
     shutil.copytree(machines.machine("branch").top / "folder/authority", new.top / "folder/authority", symlinks=True)
     new.done(f"cd /run/folder; {INSTALL} ./next/*.deb; systemctl disable --now nginx; cp -a moved authority /root")
-    new.lines([it for it in blocks(PAGE) if it.mark == "sh new"])
+    new.lines(lines_there(machines.machine("branch"), blocks(PAGE)))
     new.done("systemctl -q enable --now bank-office.socket bank-office")
     have_night(new)
     require(new.sh(FAILED).stdout, "", "units that failed on the new machine")
