@@ -123,11 +123,11 @@ class BankFile:
         self.line(branch, teller, delta, 1, user)
         return number
 
-    def transfer(self, branch: int, source: int, target: int, amount: int, teller: int = 11) -> int:
+    def transfer(self, branch: int, source: int, target: int, amount: int, teller: int = 11, user: int = 7) -> int:
         """A transfer; the number of its first leg."""
         first = self.of_branch("entries", branch) + 1
-        self.entry(branch, source, teller, -amount, 2, partner=first + 1)
-        self.entry(branch, target, teller, amount, 2, partner=first)
+        self.entry(branch, source, teller, -amount, 2, partner=first + 1, user=user)
+        self.entry(branch, target, teller, amount, 2, partner=first, user=user)
         return first
 
     def move(self, branch: int, source: int, target: int, amount: int, form: int = 4) -> None:

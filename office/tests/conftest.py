@@ -91,10 +91,10 @@ class Office:
 
     def pay_interest(self, bank: BankFile, first: str, last: str) -> None:
         """A run pays interest to 101, as the bank's file and that of reasons have it."""
-        number = bank.transfer(1, 900, 101, 77)
+        number = bank.transfer(1, 900, 101, 77, user=50)
         reply = json.dumps({"branch": 1, "first": number, "second": number + 1, "source": 0, "target": 0}).encode()
-        bank.bank.execute("INSERT INTO slips (user_no, slip, reply) VALUES (50, 100001, ?)", (reply,))
-        lines = [[100_001, "interest", first, last, INTEREST]]
+        bank.bank.execute("INSERT INTO slips (user_no, slip, form, reply) VALUES (50, 100001, 2, ?)", (reply,))
+        lines = [[100_001, "interest", first, last, INTEREST, 900, 101, 77]]
         self.settings.reasons.write_text(json.dumps({"user": 50, "lines": lines}))
 
     def ask(self, badge: str, path: str, method: str = "GET", **more: Any) -> Any:
@@ -115,7 +115,7 @@ class Office:
     def command(self, *arguments: str, more: str = "") -> int:
         """The status of a command, by a file of these settings, which may have more."""
         it, file = self.settings, self.settings.file.with_name("settings.toml")
-        paths = f'file = "{it.file}"\ncopies = "{it.copies}"\nruns = "{it.runs}"\ntrail = "{it.trail}"\n'
+        paths = "".join(f'{name} = "{getattr(it, name)}"\n' for name in ("file", "copies", "runs", "trail", "reasons"))
         file.write_text(f'{more}{paths}keepers = ["kim"]\napprovers = ["sue", "sam"]\n')
         return main(["--settings", str(file), *arguments])
 

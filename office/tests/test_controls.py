@@ -152,8 +152,10 @@ def mutual(bank: PolicyBank) -> None:
 
 PLANTED: list[tuple[Callable[[PolicyBank], None], dict[str, int]]] = [
     (posts(LIMIT + 1), {"above-limit": 1}), (late_correction, {"late-corrections": 1, "long-days": 1}), (three_corrections, {"correction-pairs": 1}),
-    (woken, {"woken": 1, "above-limit": 1, "long-days": 1}), (posts(95_000, 99_000, LIMIT), {"structuring": 1}), (round_sums, {"round-sums": 1}),
-    (differences, {"differences": 1}), (posts(*[50_017] * 200), {"first-digits": 1}), (posts(*[60_000, -60_000] * 5), {"in-and-out": 1}),
+    (woken, {"woken": 1, "above-limit": 1, "long-days": 1}), (round_sums, {"round-sums": 1}),
+    (posts(95_000, 99_000, LIMIT), {"structuring": 1, "sums-above-limit": 1}),
+    (differences, {"differences": 1}), (posts(*[50_017] * 200), {"first-digits": 1, "sums-above-limit": 1}),
+    (posts(*[60_000, -60_000] * 5), {"in-and-out": 1, "sums-above-limit": 2}),
     (mutual, {"mutual-releases": 1}), (two_posts(-3600), {"clock-back": 1}), (two_posts(2 * 86_400), {"long-days": 1}),
     (in_one_hand, {"in-one-hand": 3}), (gap, {"policy-log": 1}), (put_back, {"above-limit": 1, "put-back": 2}),
     (no_reason, {"no-reason": 2}), (second_card, {"several-cards": 1})]  # fmt: skip
@@ -162,7 +164,7 @@ PLANTED: list[tuple[Callable[[PolicyBank], None], dict[str, int]]] = [
 def test_an_honest_month_names_nothing(bank: PolicyBank) -> None:
     assert found_by(bank) == {}
     page = below_heading(bank.office.ask("olga", "/office/controls").text)
-    assert page.count("<h2") == 17 and 'class="fault"' not in page and 'class="differs"' not in page
+    assert page.count("<h2") == 19 and 'class="fault"' not in page and 'class="differs"' not in page
 
 
 @pytest.mark.parametrize("plant, wanted", PLANTED, ids=[next(iter(it[1])) for it in PLANTED])
@@ -171,6 +173,26 @@ def test_each_control_finds_its_planted_case(bank: PolicyBank, plant: Callable[[
         bank.bank.bank.execute("UPDATE entries SET user_no = 7")
     plant(bank)
     assert found_by(bank) == wanted
+
+
+def test_an_entry_by_the_card_of_runs_is_a_runs_by_slip_accounts_and_amount_or_red(bank: PolicyBank) -> None:
+    bank.bank.grant(50, [NUMBERS["transfer"]], EVERYTHING, 100)
+    bank.office.pay_interest(bank.bank, "2026-03-01", "2026-03-31")
+    bank.bank.transfer(1, 900, 101, 77, user=50)
+    handed = bank.office.settings.reasons.read_text()
+    for old, new, rows in ((", 900, 101, 77", "", 2), ("77]", "78]", 4), ("101,", "102,", 3), ("100001", "9", 4)):
+        bank.office.settings.reasons.write_text(handed.replace(old, new))
+        assert found_by(bank) == {"no-run": rows}, new
+
+
+def test_what_was_corrected_or_released_is_in_no_sum(bank: PolicyBank) -> None:
+    note(bank, "entry", bank.bank.post(1, 101, -90_000, undoes=bank.post(90_000), user=8), "reason")
+    for cents in (11_000, 44_000, 44_000, 44_000):
+        bank.bank.transfer(1, 102, 101, cents)
+    bank.bank.put("releases", (TESS, 1, 9, 1, bank.bank.of_branch("day", 1), 2, 102, 101, 11, 1, 44_000, 0, 0, 0, 1))
+    assert found_by(bank) == {}
+    bank.bank.bank.execute("UPDATE releases SET used = 0")
+    assert found_by(bank) == {"sums-above-limit": 2}
 
 
 def test_the_file_of_queries_is_read_by_sqlite_itself(bank: PolicyBank) -> None:

@@ -93,7 +93,7 @@ def of_queries() -> Iterator[str]:
         yield it.name
         if it.name != controls.IN_ONE_HAND:
             yield it.title
-            yield from (column[0].replace("_", " ") for column in bank.execute(it.text).description)
+            yield from (column[0].replace("_", " ") for column in bank.execute(it.text, {"runs": None}).description)
 
 
 @functools.cache

@@ -6,7 +6,7 @@ from typing import Any
 
 import pytest
 from office.tests.bank_file import BankFile
-from tespiorvu.office import carry, interest, register, runs
+from tespiorvu.office import carry, interest, reasons, register, runs
 from tespiorvu.office.copies import Copies
 from tespiorvu.office.languages import language_of
 from tespiorvu.office.money import MOST_PER_ENTRY, half_up, millionths_of, parts_of
@@ -149,6 +149,17 @@ def test_a_run_that_is_cut_acts_once(office: Office) -> None:
     assert sorted(bank.taken) == [100_001, 100_002, 100_003]
     with pytest.raises(Refused, match="is carried out"):
         carried(office, bank, run)
+
+
+def test_the_office_has_each_transfer_before_it_is_sent(office: Office, monkeypatch: pytest.MonkeyPatch) -> None:
+    approved(office)
+    proposed(office, "fee")
+    monkeypatch.setattr(carry, "Bank", lambda settings: FakeBank(stops_after=1))
+    assert office.command("carry-out") == 3
+    (office.copies / "badges.csv").write_text("badge,user\n")
+    for _ in range(2):
+        user, handed = reasons.handed(office.settings.reasons)
+        assert (user, [*handed], office.command("save", "runs")) == (50, [100_001, 100_002, 100_003], 0)
 
 
 def test_a_large_amount_goes_in_parts_and_stops_where_one_is_refused(office: Office, banked: BankFile) -> None:

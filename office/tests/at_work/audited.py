@@ -91,7 +91,7 @@ def policy_nights(day: Day) -> None:
 
 
 def limit_put_back(day: Day) -> None:
-    """A limit is raised, used and put back: a red row of the page of changes, and a control that fails."""
+    """A limit is raised, used and put back, and the card of runs used without a run: red rows, and none of runs."""
     status, said = day.command("controls")
     require((status, [it for it in said.splitlines() if it.endswith("RED")]), (0, []), f"controls before: {said}")
     require('class="fault"' in day.get("olga", "rights/changes"), False, "the page before")
@@ -102,6 +102,10 @@ def limit_put_back(day: Day) -> None:
     tell(day, "carl", "revoke", **AMY)
     tell(day, "carl", "grant", **AMY, limit=lists.LIMIT)
     day.do("amy", "drawer-off", branch=1, counted=900_000, teller=11)
+    day.branch.begin("office", drawer=False)
+    day.do("office", "drawer-on", branch=1, teller=90, cash=0)
+    day.do("office", "transfer", branch=1, teller=90, amount=250_000, source=900, target=101)
+    day.do("office", "drawer-off", branch=1, teller=90, counted=0)
     require(night(day)[0], 0, "the log is whole")
     page = day.get("olga", "rights/changes")
     red = [it for it in page.split("<tr") if it.startswith(' class="fault"')]
@@ -109,6 +113,7 @@ def limit_put_back(day: Day) -> None:
     require((len(red), all(wanted in it and "carl" in it for it in red)), (2, True), f"red rows: {red}")
     status, said = day.command("controls")
     require((status, "15 put-back: 2, RED" in said, "1 above-limit: 1\n" in said), (1, True, True), said)
+    require("18 no-run: 2, RED" in said and "amount -2,500.00" in said, True, said)
     require('<p class="fault" role="alert">rights that were another' in day.get("olga", "controls"), True, "the page of controls")
 
 

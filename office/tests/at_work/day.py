@@ -40,6 +40,7 @@ file = "{top}/office"
 runs = "{top}/runs-of-their-own/runs"
 copies = "{root}/var/lib/bank-office-copies"
 trail = "{root}/var/lib/bank-office-trail"
+reasons = "{root}/var/lib/bank-office-reasons/reasons"
 keepers = ["kim"]
 approvers = ["sue", "sam"]
 # Tellers of this bank open accounts, too, whose new customers a second person accepts: so new-account and transfer may meet.
@@ -87,7 +88,7 @@ class Day:
         self.settings_file = self.machine.put("etc/bank-office/settings.toml", text)
         self.settings: Settings = read_settings(self.settings_file)
         self.copies = self.settings.copies
-        for it in (self.copies, self.settings.trail):
+        for it in (self.copies, self.settings.trail, self.settings.reasons.parent):
             it.mkdir()
         self.environment = {**os.environ, **self.machine.environment(PYTHONPATH=str(files.share))}
         self.services: dict[str, subprocess.Popen[bytes]] = {}

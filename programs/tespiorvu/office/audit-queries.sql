@@ -4,6 +4,7 @@
 --     sqlite3 -batch -readonly COPY ".read audit-queries.sql"
 --
 -- The office makes them on its page of controls, where settings.toml says what must not meet in one hand.
+-- There `:runs` is the user of runs, whose sums no row has; sqlite3 lists these, too.
 .headers on
 .mode column
 CREATE TEMP TABLE apart (one TEXT NOT NULL, other TEXT NOT NULL);
@@ -68,3 +69,17 @@ WITH names (procedure, name) AS (VALUES (1, 'post'), (2, 'transfer'), (3, 'corre
 SELECT a.user_no, users.name, a.name AS one_of_the_pair, b.name AS other_of_the_pair
 FROM may AS a JOIN may AS b USING (user_no) JOIN apart ON apart.one = a.name AND apart.other = b.name JOIN users USING (user_no)
 ORDER BY 1, 3, 4;
+.print 19 sums-above-limit: sums of a user's posts and transfers at an account on a day above the limit, each within it
+WITH own AS (SELECT *, abs(delta) AS amount, delta > 0 AS is_in,
+        row_number() OVER (PARTITION BY branch, day, user_no, form, account, delta ORDER BY number) AS place,
+        (SELECT max(ceiling) FROM grants JOIN members USING (set_no) WHERE grants.user_no = done.user_no
+            AND procedure = form AND kind = 1 AND account BETWEEN low AND high) AS most
+    FROM entries AS done WHERE form < 3 AND user_no IS NOT :runs)
+SELECT branch, day, account, user_no, count(*) AS entries, sum(amount) AS sum, max(most) AS limit_today FROM own
+WHERE amount <= most AND most < 999999
+    AND NOT EXISTS (SELECT 1 FROM entries AS it WHERE it.branch = own.branch AND it.undoes = own.number)
+    AND place > (SELECT count(*) FROM releases AS it
+        WHERE (it.user_no, it.branch, it.day, it.form) = (own.user_no, own.branch, own.day, own.form) AND used = 1
+        AND CASE own.form WHEN 1 THEN (member1, member4) = (account, delta)
+            ELSE (CASE WHEN is_in THEN member2 ELSE member1 END, member5) = (account, amount) END)
+GROUP BY branch, day, account, user_no, is_in HAVING sum(amount) > max(most);

@@ -69,6 +69,8 @@ def carry_out(settings: Settings, given: argparse.Namespace) -> int:
     status = 0
     with opened_runs(settings) as found, carry.alone(settings.runs):
         approved = [it["run"] for it in found.execute("SELECT run FROM runs WHERE state = 'approved' ORDER BY run").fetchall()]
+        # Before the first is sent, so that no copy of the bank has a transfer that is not there.
+        reasons.hand(found, settings)
         bank = carry.Bank(settings) if approved else None
         for run in approved:
             assert bank is not None

@@ -9,7 +9,7 @@ from dataclasses import replace
 from pathlib import Path
 from typing import NamedTuple
 
-from . import apart, cards, day_notes, rights
+from . import apart, cards, day_notes, reasons, rights
 from .books import clock
 from .copies import Copies, Copy
 from .languages import Language, Sentence, Term, from_kept
@@ -26,6 +26,9 @@ USERS = {"user no", "made by", "corrected by", "one user", "other user"}
 # Those that are moments, as SQLite writes them, and those that are terms of the office.
 MOMENTS = {"time", "first row", "last row", "copy of", "changed", "put back"}
 TERMS = {"what", "procedure", "one of the pair", "other of the pair"}
+OF_USER = """
+SELECT branch, number, day, datetime(moment, 'unixepoch', 'localtime'), account, delta FROM entries WHERE user_no = ?
+"""
 Row = tuple[object, ...]
 
 
@@ -88,9 +91,9 @@ def with_pairs(settings: Settings) -> Settings:
     return settings if settings.apart else replace(settings, apart=default_pairs())
 
 
-def by_query(copy: Copy, it: Query) -> Control:
-    """A control by its query."""
-    found = copy.bank.execute(it.text)
+def by_query(copy: Copy, it: Query, runs: int | None) -> Control:
+    """A control by its query, which may leave the user of runs out."""
+    found = copy.bank.execute(it.text, {"runs": runs})
     heading = [column[0].replace("_", " ") for column in found.description]
     return Control(it.number, it.name, Term(it.title), it.is_red, heading, [tuple(row) for row in found])
 
@@ -144,6 +147,18 @@ def of_office(settings: Settings, copy: Copy) -> Iterator[Control]:
                   ["badge", "cards", "serial numbers"], several)  # fmt: skip
 
 
+def without_run(settings: Settings, copies: list[Copy], runs: int) -> Control:
+    """The newest copy's entries of the user of runs that no transfer of a run explains."""
+    by_run, copy, rows = reasons.of_entries(copies, settings), copies[-1], list[Row]()
+    for it in copy.rows(f"{OF_USER} ORDER BY branch, number", runs):
+        branch, number, *_, account, delta = it
+        reason = by_run.get((copy.name, branch, number))
+        if reason is None or not reason.explains(account, delta):
+            rows.append((*it,))
+    return Control(18, "no-run", Sentence("entries of the user of runs that are of no run"), True,
+                   ["branch", "entry", "day", "time", "account", "amount"], rows)  # fmt: skip
+
+
 def controls_of(settings: Settings, year: str = "") -> list[Control]:
     """All controls over the newest copy, or the queries over the file of a closed year."""
     copies = Copies(settings.copies)
@@ -153,7 +168,9 @@ def controls_of(settings: Settings, year: str = "") -> list[Control]:
         if copy is None:
             raise Refused("There is no file of {year}", year=year)
         badges = copies.badges()
-        found = [in_one_hand(settings, copy, it, badges) if it.name == IN_ONE_HAND else by_query(copy, it) for it in queries()]
+        runs = badges.get(settings.badge) or reasons.handed(settings.reasons)[0]
+        found = [by_query(copy, it, runs) if it.name != IN_ONE_HAND else in_one_hand(settings, copy, it, badges)
+                 for it in queries()]  # fmt: skip
         if not year:
-            found += [*of_log(settings, opened_), *of_office(settings, copy)]
-    return found
+            found += [*of_log(settings, opened_), *of_office(settings, copy), without_run(settings, opened_, runs or 0)]
+    return sorted(found, key=lambda it: it.number)
