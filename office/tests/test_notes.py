@@ -74,13 +74,19 @@ def test_an_entry_bears_the_last_purpose_of_whoever_made_it(office: Office) -> N
         entries = [Entry(*it) for it in copy.rows(f"{ENTRIES} WHERE it.account = 101")]
         assert notes.purposes(found, Copies(office.copies), entries) == {(1, 1, 1): "Rent of May"}
     badges = office.copies / "badges.csv"
-    badges.write_text(badges.read_text().replace("tess,7\n", ""))
+    badges.write_text(badges.read_text().replace("tess,7\n", "tess2,7\n").replace("tom,8\n", ""))
     assert seen(office, "sue", 101) == {"1 1": ("Rent of May", True)}
+    with office.opened() as found:  # one of an earlier version is of who has its badge now
+        found.executescript("ALTER TABLE notes DROP COLUMN user; PRAGMA user_version = 4")
+    assert seen(office, "sue", 101) == {}
+    badges.write_text(badges.read_text().replace("tess2,", "tess,"))
+    assert (seen(office, "sue", 101), kept(office).json["kept"]) == ({"1 1": ("Rent of May", True)}, 1)
 
 
 def test_purposes_since_the_copy_are_ones_own_or_of_a_branch_whose_proof_is_shown(office: Office) -> None:
     kept(office, "tess", number=3, text="Mine")
     kept(office, "tom", number=4, text="Another's")
     assert seen(office, "tess", 101) == {"1 3": ("Mine", False)}
-    assert seen(office, "sue", 101) == {"1 3": ("Mine", False), "1 4": ("Another's", False)}
+    kept(office, "tom", numbers=[2, 3], text="Not his")
+    assert seen(office, "sue", 101) == {"1 3": ("Mine (tess); Not his (tom)", False), "1 4": ("Another's (tom)", False)}
     assert office.ask("tess", "/office/api/purposes?account=201").status_code == 403

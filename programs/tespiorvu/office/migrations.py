@@ -70,6 +70,12 @@ def words_by_holder(found: sqlite3.Connection) -> None:
     carry_out(found, "CREATE INDEX name_words_by_holder ON name_words (holder);")
 
 
+def writers_of_notes(found: sqlite3.Connection) -> None:
+    """A note keeps its writer's user. (Those of a file that had none have it by their table.)"""
+    if not any(it["name"] == "user" for it in found.execute("PRAGMA table_info(notes)")):
+        carry_out(found, "ALTER TABLE notes ADD COLUMN user INTEGER;")
+
+
 Step = Callable[[sqlite3.Connection], None]
 CHANGES = "schema_changes.sql"
 NOTES = "schema_notes.sql"
@@ -88,7 +94,10 @@ class Tables(NamedTuple):
 
 
 # Runs were in the register's file once. There they stay, for the file of runs to take them over.
-REGISTER = Tables(("schema.sql", CHANGES, NOTES), (parts_of_requests, chained_changes, more_of_holders, words_by_holder))
+REGISTER = Tables(
+    ("schema.sql", CHANGES, NOTES),
+    (parts_of_requests, chained_changes, more_of_holders, words_by_holder, writers_of_notes),
+)
 RUNS = Tables(("schema_runs.sql", CHANGES))
 
 

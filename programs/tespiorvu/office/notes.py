@@ -4,7 +4,7 @@ changed or removed.
 A row is named by its branch, the bank's day and its number there, as numbers begin anew each year, and days go on.
 """
 import sqlite3
-from collections.abc import Iterable, Sequence
+from collections.abc import Iterable, Mapping, Sequence
 from typing import NamedTuple
 
 from ..policy import Kind, may
@@ -44,6 +44,12 @@ class Note(NamedTuple):
     number: int
     kind: str
     text: str
+    # Missing in a note of an earlier version.
+    user: int | None = None
+
+    def writer(self, badges: Mapping[str, int]) -> int | None:
+        """Whose note it is; of one that does not say so, who has its badge by this list, if anybody."""
+        return self.user or badges.get(self.badge)
 
 
 def works_at(copy: Copy, user: int, branch: int, moment: int) -> bool:
@@ -74,8 +80,12 @@ def require_rows(copies: list[Copy], place: Place, numbers: Sequence[int]) -> No
                           branch=place.branch, row=Term(place.row), number=number, day=place.day)  # fmt: skip
 
 
-def add(found: sqlite3.Connection, copies: list[Copy], badge: str, place: Place, numbers: Sequence[int], kind: str, text: str) -> int:
-    """Keeps a note on each of these rows of a place, all or none; how many are new. The same of the same badge is kept once."""
+def add(
+    found: sqlite3.Connection, copies: list[Copy], who: tuple[str, int], place: Place, numbers: Sequence[int],
+    kind: str, text: str
+) -> int:  # fmt: skip
+    """Keeps a note, by a badge and its user, on each of these rows of a place, all or none; how many are new. The same
+    of the same user is kept once."""
     if place.row not in ROWS or kind not in KINDS:
         raise Refused("row is {rows}, and kind is {kinds}", rows=" or ".join(ROWS), kinds=list(KINDS))
     if not 1 <= len(numbers) <= MOST_AT_ONCE:
@@ -89,9 +99,10 @@ def add(found: sqlite3.Connection, copies: list[Copy], badge: str, place: Place,
     before = found.total_changes
     with changing(found):
         found.executemany(
-            "INSERT INTO notes (moment, badge, branch, day, row, number, kind, text) SELECT ?1, ?2, ?3, ?4, ?5, ?6, ?7, ?8 "
-            "WHERE NOT EXISTS (SELECT 1 FROM notes WHERE (badge, branch, day, row, number, kind, text) = (?2, ?3, ?4, ?5, ?6, ?7, ?8))",
-            [(now(), badge, *place, number, kind, text.strip()) for number in numbers],
+            "INSERT INTO notes (moment, badge, user, branch, day, row, number, kind, text) "
+            "SELECT ?1, ?2, ?3, ?4, ?5, ?6, ?7, ?8, ?9 WHERE NOT EXISTS (SELECT 1 FROM notes "
+            "WHERE (badge, user, branch, day, row, number, kind, text) = (?2, ?3, ?4, ?5, ?6, ?7, ?8, ?9))",
+            [(now(), *who, *place, number, kind, text.strip()) for number in numbers],
         )
     return found.total_changes - before
 
@@ -108,13 +119,10 @@ def of_row(found: sqlite3.Connection, place: Place, number: int) -> list[Note]:
 
 
 def purposes(found: sqlite3.Connection, copies: Copies, entries: Iterable[Entry]) -> dict[tuple[int, int, int], str]:
-    """The purpose of each entry that has one, by branch, day and number: the last that whoever made the entry wrote. (A badge that
-    the list of badges no longer has was somebody's who left.)"""
-    users, texts = dict[str, int | None](), dict[tuple[int, int, int], str]()
+    """The purpose of each entry that has one, by branch, day and number: the last that whoever made the entry wrote."""
+    badges, texts = copies.badges(), dict[tuple[int, int, int], str]()
     for entry in entries:
         for note in of_row(found, Place(entry.branch, entry.day), entry.number):
-            if note.badge not in users:
-                users[note.badge] = copies.user_of(note.badge)
-            if note.kind == "purpose" and users[note.badge] in (entry.user, None):
+            if note.kind == "purpose" and note.writer(badges) == entry.user:
                 texts[entry.branch, entry.day, entry.number] = note.text
     return texts

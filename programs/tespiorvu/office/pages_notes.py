@@ -6,7 +6,7 @@ Below /office/api/. A note is of a branch, the bank's day and the entry's number
   difference), `text`, one line of 200 characters. `kept` comes: how many are new.
 - GET notes?branch=1&day=3: all of that day.
 - GET purposes?account=101: of each entry the last purpose of whoever made it, with the entry's moment; and in `made` those since the newest
-  copy, of any account.
+  copy, of any account, those of others with their writers' names.
 - GET day?branch=1: the day that was open when the newest copy was made.
 """
 from typing import Any
@@ -47,11 +47,15 @@ def text_in(given: dict[str, Any], name: str, otherwise: str = "") -> str:
     return text
 
 
+def name_of(note: Note) -> str:
+    """The name of who wrote a note."""
+    here = desk()
+    return register.names_of_users(here.found).get(note.writer(here.copies.badges()) or 0, note.badge)
+
+
 def shown(note: Note) -> dict[str, Any]:
     """A note with the name of who wrote it."""
-    here = desk()
-    user = here.copies.user_of(note.badge)
-    return {**note._asdict(), "name": register.names_of_users(here.found).get(user or 0, note.badge)}
+    return {**note._asdict(), "name": name_of(note)}
 
 
 @pages.get("/api/day")
@@ -73,7 +77,8 @@ def keep_answer() -> Response:
     if not isinstance(numbers, list) or not all(type(it) is int for it in numbers):
         raise Refused("numbers is a list of numbers")
     place = Place(branch, day, text_in(given, "row", "entry"))
-    kept = notes.add(here.found, here.years, here.badge, place, numbers, text_in(given, "kind"), text_in(given, "text"))
+    who, kind, text = (here.badge, here.user), text_in(given, "kind"), text_in(given, "text")
+    kept = notes.add(here.found, here.years, who, place, numbers, kind, text)
     return jsonify(kept=kept, branch=branch, day=day)
 
 
@@ -86,18 +91,21 @@ def notes_answer() -> Response:
 
 
 def purposes_since() -> list[dict[str, Any]]:
-    """The purposes of entries that are in no copy yet: one's own, and those of the branches whose proof one sees. Which entries are the
-    account's only the bank knows, so they have no moment."""
-    here = desk()
-    found = list[dict[str, Any]]()
-    for row in here.copy.rows("SELECT branch, day FROM branches"):
+    """The purposes of entries that are in no copy yet: one's own, and with their writers' names those of the branches
+    whose proof one sees. Who made such an entry, and at which account, only the bank knows, so they have no moment."""
+    here, texts = desk(), dict[tuple[int, int], dict[str, str]]()
+    for row in here.copy.rows("SELECT branch, day, entries FROM branches"):
         sees_all = sees_branch(here.copy.policy, here.user, row["branch"], now())
         rows = here.found.execute(
-            "SELECT * FROM notes WHERE branch = ? AND day >= ? AND kind = 'purpose' ORDER BY note", (row["branch"], row["day"])
-        )
-        texts = {it["number"]: it["text"] for it in rows if sees_all or it["badge"] == here.badge}
-        found += [{"branch": row["branch"], "entry": entry, "moment": None, "text": text} for entry, text in texts.items()]
-    return found
+            "SELECT * FROM notes WHERE branch = ?1 AND (day > ?2 OR day = ?2 AND number > ?3) AND row = 'entry' "
+            "AND kind = 'purpose' ORDER BY note", (*row,))  # fmt: skip
+        for it in (Note(*one) for one in rows):
+            is_own = it.badge == here.badge
+            if is_own or sees_all:
+                text = it.text if is_own else f"{it.text} ({name_of(it)})"
+                texts.setdefault((it.branch, it.number), {})[it.badge] = text
+    return [{"branch": branch, "entry": entry, "moment": None, "text": "; ".join(it.values())}
+            for (branch, entry), it in texts.items()]  # fmt: skip
 
 
 @pages.get("/api/purposes")
