@@ -8,5 +8,5 @@ ODD_NAMES = [
     '"Buck" Rogers', "<b>Bold</b>", "<script>alert(1)</script>", "Robert'); DROP TABLE holders;--", "=1+1 Formula",
     "'=1+1 Quoted", "+49 Person", "-5 Minus", "@home Company", "'t Hooft", "100% Sure", "A & B Company", "null",
     "undefined", "None", "True", "0123456789", "Tab{{7*7}}", "e\u0301clair decomposed", "\U0001f984 Unicorn",
-    "x" * 200, "Ω" * 200, "Mary  Two  Spaces", "\\n Backslash",
+    "x" * 200, "Ω" * 200, "علی\u200cرضا", "\\n Backslash",
 ]

@@ -56,6 +56,8 @@ def test_namesakes_are_told_apart_and_all_accounts_of_one_are_shown(office: Offi
 def test_a_new_customer_bears_a_mark_until_a_second_person_accepts(office: Office) -> None:
     number = proposed(office).json["holder"]
     assert (number, proposed(office).json["holder"]) == (3, 3)
+    again = proposed(office, name=f" {NEW['name'].replace(' ', '  ')}").json
+    assert (again["holder"], again["name"]) == (3, NEW["name"])
     assert office.ask("sue", "/office/api/names?accounts=150").json["accounts"]["150"] == ["Jo Néw (?)"]
     assert "Jo Néw (?)" in office.form("kim", "/office/", q="new").text
     assert "Proposed by tess" in office.ask("tess", f"/office/holders/{number}").text

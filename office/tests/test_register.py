@@ -58,6 +58,8 @@ def test_a_search_begins_with_two_letters(office: Office, asked: str) -> None:
     ("1000000000,Ann,,,,", "whole number"), ("01,Ann,,,,", "whole number"), ("1,,,,,", "name has 1 to 200"),
     ("1, ,,,,", "name has 1 to 200"), (f"1,{'x' * 201},,,,", "and not 201"),
     ("1,Ann,,,,31.1.2026", "since is a date"), ("1,Ann\x07,,,,", "U+0007"), ("1,\u202enna,,,,", "U+202E"),
+    ("1,\u200b,,,,", "U+200B"), ("1,A\u200dB,,,,", "U+200D"), ("1,A\u3164,,,,", "U+3164"), ("1,\ufffe,,,,", "U+FFFE"),
+    ("1,\u2800,,,,", "U+2800"), ("1,Ann,A\U000e0041,,,", "U+E0041"), ("1,\u00a0,,,,", "name has 1 to 200"),
     ('1,"Ann,,,,', "unexpected end"), ("1,Ann", "2 fields"), ("1,Ann,,,,,", "7 fields"),
 ])  # fmt: skip
 def test_a_bad_record_is_refused_by_its_line_and_nothing_is_taken(office: Office, record: str, why: str) -> None:
@@ -85,8 +87,8 @@ def test_a_bad_sheet_is_refused_by_its_line(office: Office, name: str, text: str
     assert why in str(refused.value)
 
 
-LETTERS = strategies.characters(blacklist_categories=("Cc", "Cs", "Co", "Zl", "Zp"))
-NAME = strategies.text(LETTERS, min_size=1, max_size=200).filter(lambda it: it.strip() and not set(it) & register.TURNS)
+LETTERS = strategies.characters(blacklist_categories=register.UNSHOWN, blacklist_characters=[*register.BLANK])
+NAME = strategies.text(LETTERS, min_size=1, max_size=200).map(register.spaced).filter(bool)
 
 
 @given(strategies.lists(NAME, max_size=5))
@@ -101,6 +103,14 @@ def test_any_names_come_out_equal(names: list[str]) -> None:
     text = sheets.exported(found, "holders")
     assert sheets.imported(found, "kim", "holders", text.encode()) == 0
     assert sheets.exported(found, "holders") == text
+
+
+def test_no_blanks_hide_a_part_of_a_name_and_one_that_stands_is_not_judged(office: Office) -> None:
+    with office.opened() as found:
+        names = "Ann\u00a0\t Meier" + "\u3000" * 20, " Ann Meier "
+        assert [sheets.imported(found, "kim", "holders", sheet_of([it])) for it in names] == [1, 0]
+        found.execute("UPDATE holders SET name = 'An\u200bn'")
+        assert sheets.imported(found, "kim", "holders", sheets.exported(found, "holders").encode()) == 0
 
 
 @given(strategies.text() | strategies.text(strategies.sampled_from("a'=+-@;\t\n\r\uff1d\uff0b")))

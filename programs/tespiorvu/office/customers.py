@@ -8,7 +8,7 @@ from typing import Any, NamedTuple
 from ..policy import Kind, may
 from .copies import Copies, Copy
 from .forgetting import drop
-from .register import Holder, Holding, accounts_of, holder_of, holders_of, put_holder, put_holding
+from .register import Holder, Holding, accounts_of, holder_of, holders_of, put_holder, put_holding, spaced
 from .store import Refused, Taken, changing, now
 
 # What is shown of each holder beside an account. What else the register has is for those who keep it.
@@ -49,6 +49,7 @@ def propose(found: sqlite3.Connection, copy: Copy, badge: str, user: int, accoun
     same once more, as where no reply came, is kept once."""
     if not may(copy.policy, user, OPENS, [(Kind.ACCOUNT, account)], now()):
         raise Refused("The bank lets you open no account {account}", account=account)
+    texts = {**texts, "name": spaced(texts["name"])}
     with changing(found):
         own = [it for it, _ in holders_of(found, account)]
         for it in own:

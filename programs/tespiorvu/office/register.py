@@ -16,11 +16,15 @@ DATE = re.compile(r"\d{4}-(0[1-9]|1[0-2])-(0[1-9]|[12]\d|3[01])")
 BADGE = re.compile(r"[A-Za-z0-9_-][A-Za-z0-9._-]{0,63}")
 WORD = re.compile(r"\w+")
 APOSTROPHE = re.compile("['\u2019]")
-# What turns the direction of the text that follows, so that a name could look like another.
-TURNS = frozenset("\u202a\u202b\u202c\u202d\u202e\u2066\u2067\u2068\u2069")
+BLANKS = re.compile(r"[^\S\n]+")
+# What is a letter or a sign by its category, and looks like a blank, or like nothing.
+BLANK = frozenset("\u034f\u115f\u1160\u17b4\u17b5\u2800\u3164\uffa0")
+# The joiners that writing from Arabic to Sinhala needs between two of its letters.
+JOINER = re.compile("(?<=[\u0600-\u0dff])[\u200c\u200d](?=[\u0600-\u0dff])")
 # What may be an umlaut, spelled out. After another vowel, or a q, it is none: Bauer, Queen.
 UMLAUT = re.compile("(?<![aeioq])([aou])e")
-UNSHOWN = ("Cc", "Cs", "Co", "Zl", "Zp")
+# Control characters, formats, as those that turn the direction of a text, and what is no character.
+UNSHOWN = ("Cc", "Cf", "Cn", "Co", "Cs", "Zl", "Zp")
 MAY = ("owns", "acts")
 # What stands after a name that a second person has not accepted yet.
 UNACCEPTED = " (?)"
@@ -74,13 +78,18 @@ def require_number(what: str, number: int, most: int = MOST) -> None:
         raise Refused("{what} is a number from 1 to {most}, and not {number}", **values)
 
 
+def spaced(name: str) -> str:
+    """A name with one blank between its parts, and none at its ends, so that none of it is out of sight."""
+    return BLANKS.sub(" ", name).strip()
+
+
 def require_text(what: str, text: str, most: int, least: int = 0) -> None:
     """Refuses a text that is too long, or that has characters which can't be shown."""
     if not least <= len(text.strip()) or len(text) > most:
         values = {"what": Term(what), "least": least, "most": most, "count": len(text)}
         raise Refused("{what} has {least} to {most} characters, and not {count}", **values)
-    for letter in text:
-        if unicodedata.category(letter) in UNSHOWN and not (letter == "\n" and what != "name") or letter in TURNS:
+    for letter in JOINER.sub("", text):
+        if unicodedata.category(letter) in UNSHOWN and not (letter == "\n" and what != "name") or letter in BLANK:
             code = f"{ord(letter):04X}"
             raise Refused("{what} has a character that can't be shown: U+{code}", what=Term(what), code=code)
 
@@ -129,11 +138,12 @@ def holder_of(found: sqlite3.Connection, number: int) -> Holder | None:
 
 
 def put_holder(found: sqlite3.Connection, badge: str, it: Holder) -> bool:
-    """Keeps a holder as given, in the place of what was there; whether anything changed."""
-    require_holder(it)
-    old = holder_of(found, it.holder)
+    """Keeps a holder, with the name by `spaced`, in the place of what was there, which is not judged; whether anything
+    changed."""
+    old, it = holder_of(found, it.holder), it._replace(name=spaced(it.name))
     if old == it:
         return False
+    require_holder(it)
     found.execute(
         f"INSERT INTO holders ({', '.join(Holder._fields)}) VALUES ({', '.join('?' * len(Holder._fields))}) "
         f"ON CONFLICT (holder) DO UPDATE SET {', '.join(f'{name} = excluded.{name}' for name in Holder._fields[1:])}",
@@ -166,7 +176,8 @@ def put_holding(found: sqlite3.Connection, badge: str, it: Holding) -> bool:
 
 
 def put_user(found: sqlite3.Connection, badge: str, it: User) -> bool:
-    """Keeps the name of a user; an empty name takes the row away."""
+    """Keeps the name of a user, by `spaced`; an empty name takes the row away."""
+    it = it._replace(name=spaced(it.name))
     if not BADGE.fullmatch(it.badge):
         raise Refused("{badge} is no badge", badge=repr(it.badge))
     require_number("user", it.user, 9_999)
