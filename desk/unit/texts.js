@@ -76,7 +76,9 @@ export function journals() {
   same(journalFile([done]).split('\r\n')[1].split(',').at(-1), '""entry"":3}"', 'as a file');
   same(toCsv(['a', 'b'], [['x,"y"', -5], ['=1+1', '-2'], ['l\nm', '']]), 'a,b\r\n"x,""y""",-5\r\n\'=1+1,\'-2\r\n"l\nm",\r\n', 'csv');
   for (const first of ['=', '+', '-', '@', '\t']) same(toCsv(['a'], [[`${first}x`]]), `a\r\n'${first}x\r\n`, `a cell that begins with ${first}`);
-  for (const text of ['x@y', '1-2', '']) same(toCsv(['a'], [[text]]), `a\r\n${text}\r\n`, `no formula: ${text}`);
+  const formulas = {'a;=1': "a;'=1", 'a\n-1': '"a\n\'-1"', "'@a": "''@a", '\uff0b1': "'\uff0b1"};
+  for (const [text, out] of Object.entries(formulas)) same(toCsv([], [[text]]), `\r\n${out}\r\n`, text);
+  for (const text of ['x@y', '1-2', 'a; b', '']) same(toCsv(['a'], [[text]]), `a\r\n${text}\r\n`, `not one: ${text}`);
 }
 
 export function receipts() {

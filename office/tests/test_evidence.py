@@ -14,7 +14,7 @@ def test_all_tables_and_the_trail_are_there_as_the_index_says(office: Office) ->
     old = office.bank("2025")
     old.post(1, 101, 700)
     office.bank(before=old)
-    office.keep(Holder(1, 'Ann; "A" Two'))
+    office.keep(Holder(1, '=Ann; "A" Two'))
     with office.opened() as found:
         out = io.BytesIO()
         with Copies(office.copies).all()[0] as year, Copies(office.copies).present() as present:
@@ -29,4 +29,4 @@ def test_all_tables_and_the_trail_are_there_as_the_index_says(office: Office) ->
         assert sorted(rows[0]) == sorted(str(it.text) for it in table.findall("VariableLength/*/Name"))
     entries = list(csv.DictReader(io.StringIO(zipped.read("2025-entries.csv").decode(), newline=""), delimiter=";"))
     assert [(it["account"], it["delta"]) for it in entries] == [("101", "700")]
-    assert 'Ann; ""A"" Two' in zipped.read("register-holders.csv").decode() and zipped.read("trail.log") == b"a line\n"
+    assert '"\'=Ann; ""A""' in zipped.read("register-holders.csv").decode() and zipped.read("trail.log") == b"a line\n"

@@ -10,6 +10,7 @@ from zipfile import ZIP_DEFLATED, ZipFile
 
 from .camt import part
 from .copies import Copy
+from .sheets import guarded
 
 DOCTYPE = '<?xml version="1.0" encoding="UTF-8"?>\n<!DOCTYPE DataSet SYSTEM "gdpdu-01-09-2004.dtd">\n'
 TRAIL = "trail.log"
@@ -40,12 +41,19 @@ def tables_of(name: str, found: sqlite3.Connection) -> Iterator[Table]:
         yield Table(f"{name}-{table}", columns, found.execute(f"SELECT * FROM {table}"))
 
 
+def shown(value: object) -> object:
+    """A value as it goes out: a text guarded, as somebody may have typed it."""
+    if isinstance(value, bytes):
+        return value.decode("utf-8", "replace")
+    return guarded(value) if isinstance(value, str) else value
+
+
 def text_of(table: Table) -> str:
     """A table as CSV with semicolons, whose first line has the columns."""
     out = io.StringIO()
     writer = csv.writer(out, delimiter=";", lineterminator="\r\n")
     writer.writerow(it.name for it in table.columns)
-    writer.writerows([it.decode("utf-8", "replace") if isinstance(it, bytes) else it for it in row] for row in table.rows)
+    writer.writerows(map(shown, row) for row in table.rows)
     return out.getvalue()
 
 

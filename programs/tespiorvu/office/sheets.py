@@ -15,7 +15,7 @@ from .store import Refused, changing
 # A spreadsheet takes a field that begins with one of these for a formula. Where a semicolon separates fields, as in many countries,
 # or a line ends within one, another field begins there. So an apostrophe goes out in front of each.
 BEGINS = r"(?:^|(?<=[;\t\n\r]))"
-SIGN = r"(?='*[=+\-@\t\uff1d\uff0b\uff0d\uff20])"
+SIGN = r"(?='*[=+\-@\t\r\uff1d\uff0b\uff0d\uff20])"
 FORMULA = re.compile(BEGINS + SIGN)
 GUARD = re.compile(f"{BEGINS}'{SIGN}")
 NUMBER = re.compile(r"[1-9]\d{0,8}")
