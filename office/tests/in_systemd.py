@@ -30,7 +30,8 @@ KEY, RUNS = "/etc/bank-office/office.key", "/var/lib/bank-office-runs"
 MONTH = ("journal.csv", "balances.csv", "proofs.csv", "interest-and-fees.csv", "interest-accrued.csv", "journal.hledger", "journal.beancount")
 # What each unit reaches of what at_work/probe.py tries, in its order.
 TRIED = ["/run/bank.socket", "/run/bank-office-approvals.socket", KEY, "/var/lib/bank", "/var/lib/bank-copies", "/etc/bank-front",
-         "/var/log/bank-front", RUNS, "the list of badges", "writing a copy", "the front"]  # fmt: skip
+         "/var/log/bank-front", RUNS, "/run/dbus", "the list of badges", "writing a copy",
+         "writing a saved copy", "the front"]  # fmt: skip
 REACHED: dict[str, list[str]] = {"bank-office": [], "bank-office-approvals": [RUNS], "bank-office-runs": [KEY, RUNS, "the front"]}
 
 
@@ -67,7 +68,7 @@ def installed(machine: Any) -> None:
             ran = machine.sh(f"setpriv --reuid {who} --regid $(id -g {who}) --init-groups {ask}")
             require((ran.returncode, ran.stdout), wanted, f"the socket of {socket} by {who}")
     require(machine.done("cd /var/lib/bank-office && stat -c '%n %U %a' . office secret saved").splitlines(),
-            [f". {OWN} 750", f"office {OWN} 640", f"secret {OWN} 600", f"saved {OWN} 700"], "its folder")  # fmt: skip
+            [f". {OWN} 750", f"office {OWN} 640", f"secret {OWN} 600", f"saved {OWN} 750"], "its folder")  # fmt: skip
     runs = f"{OWN}-runs"
     require(machine.done(f"cd {RUNS} && stat -c '%n %U %G %a' . runs secret saved {KEY}").splitlines(),
             [f". {runs} {runs} 700", f"runs {runs} {runs} 600", f"secret {runs} {runs} 600", f"saved {runs} {runs} 700",
@@ -138,7 +139,7 @@ def night(machine: Any) -> None:
     require(machine.sh(FAILED).stdout, "", "units that failed in the night")
     place = "/var/lib/bank-office/policy-log"
     found = machine.done(f"cd {place} && ls saved/2* >/dev/null && stat -c '%n %U %a' . policy saved")
-    require(found.splitlines(), [f". {OWN} 700", f"policy {OWN} 640", f"saved {OWN} 700"], "the policy's log")
+    require(found.splitlines(), [f". {OWN} 750", f"policy {OWN} 640", f"saved {OWN} 750"], "the policy's log")
     require(machine.done("head -n 1 /var/lib/bank-office-trail/cards.csv"), "badge,serial,valid,first,last", "the use of cards")
 
 

@@ -24,10 +24,11 @@ def main() -> None:
     for place in SOCKETS:
         tried(place, lambda: socket.socket(socket.AF_UNIX).connect(place))
     tried(KEY, lambda: open(KEY))
-    for folder in FOLDERS:
+    for folder in (*FOLDERS, "/run/dbus"):
         tried(folder, lambda: os.listdir(folder))
     tried("the list of badges", lambda: open("/etc/bank-badges.csv"))
     tried("writing a copy", lambda: open("/var/lib/bank-office-copies/present", "r+"))
+    tried("writing a saved copy", lambda: open("/var/lib/bank-office/policy-log/saved/probe", "x"))
     tried("the front", lambda: socket.create_connection(("127.0.0.1", 443), 5))
     print("copies", os.listdir("/var/lib/bank-office-copies"), flush=True)
 

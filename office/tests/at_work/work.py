@@ -282,6 +282,7 @@ HIDDEN = ("/run/bank.socket", "/var/lib/bank", "/var/lib/bank-copies", "/etc/ban
 OF_RUNS = ("/etc/bank-office/office.key", "/var/lib/bank-office-runs", "/run/bank-office-approvals.socket")
 
 
+
 def of_unit(text: str, *names: str) -> list[str]:
     """All that a unit has under these names."""
     return " ".join(re.findall(rf"^(?:{'|'.join(names)})=(.*)$", text, re.MULTILINE)).split()
@@ -298,6 +299,11 @@ def apart(day: Day) -> None:
         require([it for it in (*HIDDEN, *hidden) if f"-{it}" not in inaccessible], [], f"what {name} can reach")
         require(of_unit(unit, "User", "Group"), [user] * 2, f"{name}: user and group")
         require(of_unit(unit, "SupplementaryGroups"), ["bank-office"] if user != "bank-office" else [], f"{name}: groups")
+    for name, unit in ((it.name, it.read_text()) for it in units.glob("*.service")):
+        made = {f"/var/lib/{it}" for it in of_unit(unit, "StateDirectory") if it.endswith("/saved")}
+        require(set(of_unit(unit, "ReadOnlyPaths")), made, f"{name}: copies, read-only from the first start on")
+        if of_unit(unit, "User") and of_unit(unit, "RestrictAddressFamilies") != ["none"]:
+            require("-/run/dbus" in of_unit(unit, "InaccessiblePaths"), True, f"{name} asks systemd for nothing")
     require(
         re.findall(r"^[um]\s+(\S+)\s+(\S+)", (day.files.top / "tespiorvu-office.sysusers").read_text(), re.MULTILINE),
         [("bank-office", "-"), ("bank-office-runs", "-"), ("bank-office-runs", "bank-office")], "sysusers")
