@@ -69,7 +69,7 @@ WITH names (procedure, name) AS (VALUES (1, 'post'), (2, 'transfer'), (3, 'corre
 SELECT a.user_no, users.name, a.name AS one_of_the_pair, b.name AS other_of_the_pair
 FROM may AS a JOIN may AS b USING (user_no) JOIN apart ON apart.one = a.name AND apart.other = b.name JOIN users USING (user_no)
 ORDER BY 1, 3, 4;
-.print 19 sums-above-limit: sums of a user's posts and transfers at an account on a day above the limit, each within it
+.print 19 sums-above-limit: sums of a user's day at an account above the limit
 WITH own AS (SELECT *, abs(delta) AS amount, delta > 0 AS is_in,
         row_number() OVER (PARTITION BY branch, day, user_no, form, account, delta ORDER BY number) AS place,
         (SELECT max(ceiling) FROM grants JOIN members USING (set_no) WHERE grants.user_no = done.user_no
