@@ -15,7 +15,7 @@ from repository import TOP
 
 TOOLS = os.path.join(TOP, "tools")
 # What is tried of the branch, of its packages, of the office and of the teller's page: FOLDER/PART is the module FOLDER.tests.PART.
-BESIDE = ("branch/copies", "branch/in-systemd", "branch/measure", "branch/on-two-machines", "branch/package", "branch/test", "desk/test",
+BESIDE = ("branch/in-systemd", "branch/measure", "branch/on-two-machines", "branch/package", "branch/test", "desk/test",
           "office/in-systemd", "office/test")
 # Where these find one another's modules, the tools', and those of the programs.
 PATHS = (TOP, TOOLS, os.path.join(TOP, "programs"))
