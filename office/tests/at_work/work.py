@@ -16,6 +16,7 @@ from checks import require, wait_until
 from office.tests.at_work.day import Day
 
 from tespiorvu.office import carry, register, runs, sheets
+from tespiorvu.office.languages import LANGUAGES, language_of
 from tespiorvu.office.runs_file import opened_runs
 from tespiorvu.office.store import opened
 from office.tests.odd_names import ODD_NAMES
@@ -47,6 +48,10 @@ def first_night(day: Day) -> None:
     for fields in (("Origin: https://other.example",), ("Sec-Fetch-Site: cross-site",)):
         require(day.branch.ask("kim", "/office/", fields=fields), (403, '{"front":"other site"}'), fields[0])
     require(day.branch.ask("kim", "/office/", fields=("Desk-Badge: amy",)), (412, '{"front":"other badge"}'), "another card")
+    for code in LANGUAGES:
+        for path in ("", "runs"):
+            page = day.branch.ask("sue", f"/office/{path}", fields=(f"Accept-Language: {code}",))[1]
+            require(f">{language_of(code).say('Day books')}</a>" in page, True, f"/office/{path} in {code}")
     for who, path in (("kim", ""), ("sue", "runs"), ("kim", "api/here"), ("amy", "sheets")):
         head = day.branch.ask(who, f"/office/{path}", more=("-D", "-"))[1].partition("\n\n")[0].lower()
         for field in ("cross-origin-opener-policy: same-origin", "permissions-policy: camera=()"):
