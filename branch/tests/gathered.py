@@ -217,6 +217,7 @@ def has_key_again(new: Place) -> None:
 def nights_that_stay(place: Place, fetched: Path, fetch: Any) -> None:
     """A later night is beside the first, of which what is the same is the same file; an old one is said; a copy that fails, too."""
     time.sleep(1.1)  # names are moments
+    (place.gathered / "leads").symlink_to("x")  # as a run leaves it that is cut off
     require(place.status("gather"), (0, ""), "gathered again")
     require(fetch(), (0, ""), "fetched again")
     first, second = sorted(fetched.glob("2*"))

@@ -147,6 +147,7 @@ def gather() -> int:
         night.begun.rename(GATHERED / name)
     finally: # if the disk is full, the room is for others
         shutil.rmtree(night.begun, ignore_errors=True)
+    leads.unlink(missing_ok=True) # of a run that was cut off
     leads.symlink_to(name)
     leads.rename(GATHERED / "newest")
     for old in GATHERED.glob("[0-9]*Z"):
