@@ -46,8 +46,9 @@ def verify(night: Path, paper: str) -> None:
 def part_of(path: str, is_folder: bool) -> Part:
     """The part that a path is of, the first by its lines; of a folder above parts, the first of these."""
     names = path.split("/")
-    near = [it for it in parts() if all(map(fnmatchcase, names, it[0].split("/"))) and not path.endswith(".key")]
-    found = [it for it in near if it[0].count("/") < len(names)] or near[: 1 if is_folder else 0]
+    on_the_way = [it for it in parts() if all(map(fnmatchcase, names, it.place.split("/"))) and not path.endswith(".key")]
+    at_or_below = [it for it in on_the_way if it.place.count("/") < len(names)]
+    found = at_or_below or (on_the_way if is_folder else [])
     return found[0] if found else refuse(f"/{path} of the night is no part of a branch")
 
 
@@ -86,14 +87,14 @@ def bring_up(night: Path, paper: str, room: Path | None) -> int:
     verify(night, paper)
     plan = planned(night)
     owners = {f"{user.pw_name}:{group.gr_name}" for user in pwd.getpwall() for group in grp.getgrall()}
-    for path, (_, owner, _, _) in plan.items():
-        if not room and owner not in owners:
-            refuse(f"there is no user and group {owner}: install first {' '.join(gathered.split())}")
+    for path, part in plan.items():
+        if not room and part.owner not in owners:
+            refuse(f"there is no user and group {part.owner}: install first {' '.join(gathered.split())}")
         if (root / path).is_symlink():
             refuse(f"{root / path} is a link here")
     root.mkdir(exist_ok=True)
-    for path, (_, owner, mode, _) in plan.items():
-        bring(night / path, root / path, mode, "" if room else owner)
+    for path, part in plan.items():
+        bring(night / path, root / path, part.mode, "" if room else part.owner)
     check = ["bank_cli", "check", str(file)]
     if room:
         if not file.exists() and (root / PAIR).exists():

@@ -19,6 +19,7 @@ from collections.abc import Callable, Iterator
 from fnmatch import fnmatchcase
 from pathlib import Path
 from stat import S_ISDIR, S_ISREG
+from typing import NamedTuple
 
 from ..places import ROOT
 from .seal import KEY, openssl
@@ -27,17 +28,25 @@ GATHERED = ROOT / "var/lib/bank-gathered"
 MOMENT = "%Y%m%dT%H%M%SZ"
 # What a night has beside the parts.
 MADE, VERSIONS, SUMS, SIGNATURE, PUBLIC = BESIDE = "made", "versions", "SHA256SUMS", "SHA256SUMS.sig", "public.pem"
-# A line of `parts`: place, user and group, mode of files, and the pattern of its copies, if it is open at its place.
-Part = tuple[str, str, int, str]
 # A file or folder: its path, what is open of it until the next is reached, and whether it is a folder.
 Reached = tuple[str, int, bool]
+
+
+class Part(NamedTuple):
+    """A line of `parts`: its place, its user and group, the mode of its files, and the pattern of its copies, if it is
+    open at its place."""
+
+    place: str
+    owner: str
+    mode: int
+    copies: str
 
 
 def parts() -> list[Part]:
     """All parts, in the order of their lines."""
     text = (ROOT / "usr/share/tespiorvu/parts").read_text(encoding="utf-8")
     rows = [it.split() for it in text.splitlines() if it and not it.startswith("#")]
-    return [(place[1:], owner, int(mode, 8), "".join(copies)[1:]) for place, owner, mode, *copies in rows]
+    return [Part(place[1:], owner, int(mode, 8), "".join(copies)[1:]) for place, owner, mode, *copies in rows]
 
 
 def reached(folder: int, patterns: list[str], refuse: Callable[[str], object], above: str = "") -> Iterator[Reached]:
@@ -137,11 +146,11 @@ def gather() -> int:
     shutil.rmtree(night.begun, ignore_errors=True)
     night.begun.mkdir()
     try:
-        for place, _, _, copies in parts():
-            if not copies:
-                night.take(place)
-            elif os.path.lexists(ROOT / place):
-                night.take_copy(place, copies)
+        for it in parts():
+            if not it.copies:
+                night.take(it.place)
+            elif os.path.lexists(ROOT / it.place):
+                night.take_copy(it.place, it.copies)
         night.end(name)
         subprocess.run(["sync", "-f", str(night.begun)], check=True)
         night.begun.rename(GATHERED / name)
