@@ -53,6 +53,13 @@ def test_a_search_begins_with_two_letters(office: Office, asked: str) -> None:
         list(register.search(found, asked))
 
 
+def test_a_search_has_at_most_twenty_words(office: Office) -> None:
+    with office.opened() as found:
+        assert list(register.search(found, " ".join(f"aa{it}" for it in range(20)))) == []
+        with pytest.raises(Refused, match="at most 20 words"):
+            list(register.search(found, " ".join(f"aa{it}" for it in range(21))))
+
+
 @pytest.mark.parametrize("record, why", [
     ("x,Ann,,,,", "holder is a whole number"), ("0,Ann,,,,", "whole number"),
     ("1000000000,Ann,,,,", "whole number"), ("01,Ann,,,,", "whole number"), ("1,,,,,", "name has 1 to 200"),
